@@ -1,0 +1,4 @@
+pub mod Same
+pub mod SumLaws
+pub mod PairLaws
+pub mod Digits

@@ -1,0 +1,5 @@
+pub mod Amounts
+pub mod Sums
+pub mod Pairs
+pub mod Prices
+pub mod Lines

@@ -1,0 +1,49 @@
+ghost use mathlib.Core.Path.{_≡_};
+ghost use mathlib.Core.List.{_∷_, _++_};
+ghost use Rattle.std.specs.Written.{decimal};
+ghost use Rattle.measures.specs.Prices.{trunk-price};
+ghost use Rattle.measures.specs.declared.pair.Pair.{Pair};
+use crate::amount::Amount;
+use crate::line::put_decimal;
+use crate::link::Link;
+use crate::measure::Measure;
+use crate::measure::PrintingMeasure;
+use crate::pair::Pair;
+use crate::pairing::PairAmount;
+
+// Measure 2: the product of the strands, trunk crossings before all others.
+#[derive(Clone, Copy)]
+pub struct ByTrunks;
+
+pub impl Measure for ByTrunks as TrunkMeasure {
+    type Amount = Pair;
+
+    const NUMBER: u8 = 2;
+
+    ghost numbered = { 2 };
+
+    ghost priced = { trunk-price };
+
+    fn own_number() -> u8 {
+        Self::NUMBER
+    }
+
+    fn price(a: Link, b: Link) -> Pair {
+        let product = a.strands as u64 * b.strands as u64;
+        let either = a.class.is_trunk() | b.class.is_trunk();
+        if either {
+            return Pair { trunk: product, rest: 0 };
+        }
+        Pair { trunk: 0, rest: product }
+    }
+}
+
+pub impl PrintingMeasure for ByTrunks as TrunkPrinting {
+    ghost written = { λ x. decimal (x .trunk) ++ (47 ∷ decimal (x .rest)) };
+
+    fn write(amount: Pair, line: &mut [u8], at: usize) -> usize {
+        let slash = put_decimal(line, at, amount.trunk);
+        line[slash] = b'/';
+        put_decimal(line, slash + 1, amount.rest)
+    }
+}
