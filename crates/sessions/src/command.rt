@@ -1,0 +1,55 @@
+ghost use mathlib.Core.Path.{_≡_};
+ghost use Rattle.sessions.specs.Scripts.{width-of, read-command};
+use crate::fault::ScriptFault;
+
+// The shortest line that a call takes.
+pub const LINE: usize = 256;
+
+// The longest script that a call takes.
+pub const LONGEST: usize = 65536;
+
+// A command of a script: its letter, the byte that the letter has, and the byte behind its operands.
+#[derive(Clone, Copy)]
+pub struct Command {
+    pub letter: char,
+    pub place: usize,
+    pub next: usize,
+}
+
+// How many bytes of operands the command with this letter has; none for an unknown letter.
+fn operand_width(letter: char) -> Option<usize>
+    ensures { λ r. ⌜ r ≡ width-of letter ⌝ }
+{
+    match letter {
+        'M' => Some(2),
+        'D' => Some(2),
+        'L' => Some(4),
+        'C' => Some(0),
+        'O' => Some(48),
+        _ => None,
+    }
+}
+
+// Reads the command at a byte of the script, for a line with this much room.
+pub fn read_command(script: &[u8], place: usize, room: usize) -> Result<Command, ScriptFault>
+    ensures { λ r. ⌜ r ≡ read-command (now (script .entry)) place room ⌝ }
+{
+    if room < LINE {
+        return Err(ScriptFault::ShortLine { place });
+    }
+    if script.len() > LONGEST {
+        return Err(ScriptFault::LongScript);
+    }
+    if place >= script.len() {
+        return Err(ScriptFault::CutOff { place });
+    }
+    let letter = script[place] as char;
+    let Some(width) = operand_width(letter) else {
+        return Err(ScriptFault::UnknownLetter { place });
+    };
+    let next = place + 1 + width;
+    if next > script.len() {
+        return Err(ScriptFault::CutOff { place });
+    }
+    Ok(Command { letter, place, next })
+}

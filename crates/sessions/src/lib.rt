@@ -1,0 +1,8 @@
+pub mod command;
+pub mod fault;
+pub mod measured;
+pub mod rule;
+pub mod search;
+pub mod session;
+pub mod telling;
+pub mod writing;

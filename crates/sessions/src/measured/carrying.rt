@@ -1,0 +1,73 @@
+ghost use mathlib.Core.Path.{_≡_};
+ghost use Prim.Native.Nat.{ℕ};
+ghost use lib.ListN.{length};
+ghost use Rattle.std.specs.declared.option.Option.the-variants.{Some};
+ghost use Rattle.std.specs.declared.result.Result.the-variants.{Ok, Err};
+ghost use Rattle.sessions.specs.Scripts.{width-of};
+ghost use Rattle.sessions.specs.Stages.{stage-of, carried};
+use super::Condition;
+use super::MeasuredSession;
+use crate::fault::ScriptFault;
+use crate::fault::ScriptFromDesign;
+use crate::fault::ScriptFromSearch;
+use crate::fault::SearchFault;
+use crate::fault::SearchFromRow;
+use crate::fault::at_place;
+use crate::search::Search;
+use crate::telling::Telling;
+use designs::design::Design;
+use designs::drawing::Drawing;
+use measures::link::Class;
+use measures::link::Link;
+use measures::measure::Measure;
+
+// Reads an offered drawing.
+fn read_offer(design: &Design, operands: &[u8]) -> Result<Drawing, SearchFault>
+    requires { ⌜ length (now operands) ≡ 48 ⌝ }
+{
+    let drawing = Drawing::read(design, operands)?;
+    Ok(drawing)
+}
+
+impl<M: Measure, R: Drop> MeasuredSession<M, R> {
+    // Carries out a command that has all its operands.
+    pub fn carry_out(&mut self, letter: char, place: usize, operands: &[u8]) -> Result<Telling<M>, ScriptFault>
+        requires { ⌜ width-of letter ≡ Some (length (now operands)) ⌝ }
+        ensures told { λ r. ⌜ r ≡ carried (Amount·Amount .kind) (M·Measure .priced) (stage-of (now (self .entry) .condition)) letter place (now (operands .entry)) .told ⌝ }
+        ensures stage { λ _. ⌜ stage-of (now (self .exit) .condition) ≡ carried {M = M} (Amount·Amount .kind) (M·Measure .priced) (stage-of (now (self .entry) .condition)) letter place (now (operands .entry)) .stage ⌝ }
+        ensures refused { λ r. ⌜ elim r [ Ok _ ↦ Unit {0} | Err _ ↦ now (self .exit) ≡ now (self .entry) ] ⌝ }
+        ensures rule { λ _. ⌜ now (self .exit) .rule ≡ now (self .entry) .rule ⌝ }
+    {
+        match (&mut self.condition, letter) {
+            (Condition::Set, 'D') => {
+                let design = at_place(Design::empty(operands[0], operands[1]), place)?;
+                self.condition = Condition::Filling(design);
+                Ok(Telling::Sized { left: operands[0], right: operands[1] })
+            }
+            (Condition::Searching(_), 'D') => {
+                let design = at_place(Design::empty(operands[0], operands[1]), place)?;
+                self.condition = Condition::Filling(design);
+                Ok(Telling::Sized { left: operands[0], right: operands[1] })
+            }
+            (Condition::Filling(design), 'L') => {
+                at_place(design.link(operands[0], operands[1], operands[2], operands[3]), place)?;
+                let class = if operands[3] == 0 { Class::Ordinary } else { Class::Trunk };
+                Ok(Telling::Linked { left: operands[0], right: operands[1], link: Link { strands: operands[2], class } })
+            }
+            (Condition::Filling(design), 'C') => {
+                let closed = *design;
+                self.condition = Condition::Searching(Search::start(closed));
+                Ok(Telling::Closed)
+            }
+            (Condition::Searching(search), 'O') => {
+                let drawing = at_place(read_offer(&search.design, operands), place)?;
+                let cost = search.design.cost::<M>(&drawing);
+                let taken = search.offer(drawing, cost);
+                Ok(Telling::Offered { taken, cost })
+            }
+            (Condition::Set, _) => Err(ScriptFault::WrongCondition { place }),
+            (Condition::Filling(_), _) => Err(ScriptFault::WrongCondition { place }),
+            (Condition::Searching(_), _) => Err(ScriptFault::WrongCondition { place }),
+        }
+    }
+}

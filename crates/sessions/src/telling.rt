@@ -1,0 +1,19 @@
+use crate::fault::ScriptFault;
+use measures::link::Link;
+use measures::measure::Measure;
+
+// What an accepted command told.
+#[derive(Drop)]
+pub enum Telling<M: Measure> {
+    Sized { left: u8, right: u8 },
+    Linked { left: u8, right: u8, link: Link },
+    Closed,
+    Offered { taken: bool, cost: M::Amount },
+}
+
+// What a call answers: what it told or why it refused, and the next command's byte.
+#[derive(Drop)]
+pub struct Reply<M: Measure> {
+    pub told: Result<Telling<M>, ScriptFault>,
+    pub next: usize,
+}
