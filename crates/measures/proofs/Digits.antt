@@ -9,12 +9,7 @@ use Rattle.std.proofs.shelf.Decimals.{decimal-digit, decimal-step, decimal-read
 use Rattle.std.proofs.shelf.Numerals.{digit-from-value}
 use Rattle.std.specs.Reads.{Digits}
 use Rattle.measures.specs.Lines.{over, NoSpace}
-
-over-more : (xs : List ℕ) (at : ℕ) (ds : List ℕ) (b : ℕ) → over xs at (ds ++ (b ∷ [])) ≡ set (over xs at ds) (at + length ds) b
-over-more xs at [] b = let e : at ≡ at + 0 = omega arith in ap (λ i. set xs i b) e
-over-more xs at (a ∷ ds) b =
-    let e : (at + 1) + length ds ≡ at + length (a ∷ ds) = omega arith in
-    over-more (set xs at a) (at + 1) ds b ∙ ap (λ i. set (over (set xs at a) (at + 1) ds) i b) e
+use Rattle.measures.proofs.Lines.{over-more}
 
 pub one-length : (n : ℕ) → n < 10 → length (decimal n) ≡ 1
 one-length n h = ap length (decimal-digit n h)
@@ -27,12 +22,6 @@ more-length n h f = ap length (decimal-step n h f) ∙ length-append (decimal (n
 
 pub more-over : (xs : List ℕ) (at n : ℕ) → 10 ≤ n → n < 2 ^ 64 → set (over xs at (decimal (n / 10))) (at + length (decimal (n / 10))) (48 + n % 10) ≡ over xs at (decimal n)
 more-over xs at n h f = sym (ap (over xs at) (decimal-step n h f) ∙ over-more xs at (decimal (n / 10)) (48 + n % 10))
-
-pub over-append : (xs : List ℕ) (at : ℕ) (as′ bs : List ℕ) → over xs at (as′ ++ bs) ≡ over (over xs at as′) (at + length as′) bs
-over-append xs at [] bs = let e : at ≡ at + 0 = omega arith in ap (λ i. over xs i bs) e
-over-append xs at (a ∷ ds) bs =
-    let e : (at + 1) + length ds ≡ at + length (a ∷ ds) = omega arith in
-    over-append (set xs at a) (at + 1) ds bs ∙ ap (λ i. over (over (set xs at a) (at + 1) ds) i bs) e
 
 pub pair-length : (t r : ℕ) → length (decimal t ++ (47 ∷ decimal r)) ≡ length (decimal t) + (1 + length (decimal r))
 pair-length t r = length-append (decimal t) (47 ∷ decimal r) ∙ (omega arith)

@@ -1,4 +1,5 @@
+pub mod Digits
+pub mod Lines
+pub mod PairLaws
 pub mod Same
 pub mod SumLaws
-pub mod PairLaws
-pub mod Digits

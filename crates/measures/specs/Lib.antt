@@ -3,3 +3,4 @@ pub mod Sums
 pub mod Pairs
 pub mod Prices
 pub mod Lines
+pub mod Writings

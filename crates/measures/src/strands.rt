@@ -1,5 +1,5 @@
 ghost use mathlib.Core.Path.{_≡_};
-ghost use Rattle.std.specs.Written.{decimal};
+ghost use Rattle.measures.specs.Writings.{strand-written};
 ghost use Rattle.measures.specs.Prices.{strand-price};
 ghost use Rattle.measures.specs.declared.sum.Sum.{Sum};
 use crate::amount::Amount;
@@ -33,7 +33,7 @@ pub impl Measure for ByStrands as StrandMeasure {
 }
 
 pub impl PrintingMeasure for ByStrands as StrandPrinting {
-    ghost written = { λ x. decimal (x .value) };
+    ghost written = { strand-written };
 
     fn write(amount: Sum, line: &mut [u8], at: usize) -> usize {
         put_decimal(line, at, amount.value)

@@ -1,6 +1,5 @@
 ghost use mathlib.Core.Path.{_≡_};
-ghost use mathlib.Core.List.{_∷_, _++_};
-ghost use Rattle.std.specs.Written.{decimal};
+ghost use Rattle.measures.specs.Writings.{trunk-written};
 ghost use Rattle.measures.specs.Prices.{trunk-price};
 ghost use Rattle.measures.specs.declared.pair.Pair.{Pair};
 use crate::amount::Amount;
@@ -39,7 +38,7 @@ pub impl Measure for ByTrunks as TrunkMeasure {
 }
 
 pub impl PrintingMeasure for ByTrunks as TrunkPrinting {
-    ghost written = { λ x. decimal (x .trunk) ++ (47 ∷ decimal (x .rest)) };
+    ghost written = { trunk-written };
 
     fn write(amount: Pair, line: &mut [u8], at: usize) -> usize {
         let slash = put_decimal(line, at, amount.trunk);

@@ -33,17 +33,21 @@ read-command script p room =
     (cond (leb (length script) p) (Err (CutOff p))
     (with-width script p (width-of (getD script p 0)))))
 
--- the next command's byte: behind the operands; the given one after a short line; else the script's end
+-- the next command's byte after a fault of the reader: the given one after a short line, else the script's end
+abbrev pub next-after : ℕ → ℕ → ScriptFault → ℕ
+next-after p end (ShortLine q) = p
+next-after p end LongScript = end
+next-after p end (UnknownLetter q) = end
+next-after p end (CutOff q) = end
+next-after p end (WrongCondition q) = end
+next-after p end (InSetup f q) = end
+next-after p end (InDesign f q) = end
+next-after p end (InSearch f q) = end
+
+-- the next command's byte: behind the operands of a command that was read, whether it is then refused or not
 abbrev pub next-byte : List ℕ → ℕ → Result Command ScriptFault → ℕ
 next-byte script p (Ok c) = c .next
-next-byte script p (Err (ShortLine q)) = p
-next-byte script p (Err LongScript) = length script
-next-byte script p (Err (UnknownLetter q)) = length script
-next-byte script p (Err (CutOff q)) = length script
-next-byte script p (Err (WrongCondition q)) = length script
-next-byte script p (Err (InSetup f q)) = length script
-next-byte script p (Err (InDesign f q)) = length script
-next-byte script p (Err (InSearch f q)) = length script
+next-byte script p (Err f) = next-after p (length script) f
 
 -- a command's operands
 abbrev pub operands : List ℕ → Command → List ℕ

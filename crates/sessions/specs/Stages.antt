@@ -17,6 +17,7 @@ use Rattle.designs.specs.declared.fault.LinkFault.{LinkFault}
 use Rattle.designs.specs.declared.fault.RowFault.{RowFault}
 use Rattle.sessions.specs.declared.fault.ScriptFault.{ScriptFault}
 use Rattle.sessions.specs.declared.fault.ScriptFault.the-variants.{WrongCondition, InDesign, InSearch}
+use Rattle.sessions.specs.declared.fault.SearchFault.{SearchFault}
 use Rattle.sessions.specs.declared.fault.SearchFault.the-variants.{InRow}
 use Rattle.sessions.specs.declared.measured.Condition.{Condition}
 use Rattle.sessions.specs.declared.measured.Condition.the-variants.{Set, Filling, Searching}
@@ -70,6 +71,10 @@ offer-by K priced g best best-cost p (Ok x) = record {
   told = Ok (Offered (is-better K best-cost (cost-of K priced g x)) (cost-of K priced g x));
   stage = offered-stage K g best best-cost x (cost-of K priced g x) }
 offer-by K priced g best best-cost p (Err f) = refuse (searching g best best-cost) (InSearch (InRow f) p)
+
+abbrev pub in-search : {X : Type 0} → Result X RowFault → Result X SearchFault
+in-search (Ok x) = Ok x
+in-search (Err f) = Err (InRow f)
 
 -- D, in a session that holds s
 abbrev pub size-step : {M A : Type 0} → Stage A → ℕ → List ℕ → Carried M A

@@ -1,5 +1,5 @@
 ghost use mathlib.Core.Path.{_≡_};
-ghost use Rattle.sessions.specs.Scripts.{width-of, read-command};
+ghost use Rattle.sessions.specs.Scripts.{width-of, read-command, next-after};
 use crate::fault::ScriptFault;
 
 // The shortest line that a call takes.
@@ -52,4 +52,14 @@ pub fn read_command(script: &[u8], place: usize, room: usize) -> Result<Command,
         return Err(ScriptFault::CutOff { place });
     }
     Ok(Command { letter, place, next })
+}
+
+// Where the next command starts after a fault of the reader.
+pub fn next_after(fault: ScriptFault, place: usize, end: usize) -> usize
+    ensures { λ r. ⌜ r ≡ next-after place end fault ⌝ }
+{
+    match fault {
+        ScriptFault::ShortLine { .. } => place,
+        _ => end,
+    }
 }

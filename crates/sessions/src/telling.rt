@@ -17,3 +17,11 @@ pub struct Reply<M: Measure> {
     pub told: Result<Telling<M>, ScriptFault>,
     pub next: usize,
 }
+
+// What a call on a line answers: the same, and how many bytes it wrote.
+#[derive(Drop)]
+pub struct LineReply<M: Measure> {
+    pub told: Result<Telling<M>, ScriptFault>,
+    pub next: usize,
+    pub wrote: usize,
+}

@@ -2,7 +2,7 @@ ghost use mathlib.Core.Path.{_≡_};
 ghost use mathlib.Core.Bool.{true, false};
 ghost use Prim.Native.Nat.{ℕ, _+_, _≤_, _<_};
 ghost use lib.ListN.{replicate};
-ghost use Rattle.std.specs.declared.result.Result.the-variants.{Ok, Err};
+ghost use Rattle.std.specs.Vec.{made as IfMade, refused as IfRefused};
 ghost use Rattle.measures.specs.declared.link.Class.the-variants.{Ordinary, Trunk};
 ghost use Rattle.designs.specs.declared.fault.DesignFault.the-variants.{InLink};
 ghost use Rattle.designs.specs.Cells.{cell-at};
@@ -107,8 +107,8 @@ impl Design {
     pub fn link(&mut self, left: u8, right: u8, strands: u8, class: u8) -> Result<(), DesignFault>
         ensures result { λ r. ⌜ r ≡ in-link (on-ok (λ _. tt) (link-check (grid-of (now (self .entry))) left right strands class)) ⌝ }
         ensures state { λ _. ⌜ grid-of (now (self .exit)) ≡ after-link (grid-of (now (self .entry))) left right strands (link-check (grid-of (now (self .entry))) left right strands class) ⌝ }
-        ensures refused { λ r. ⌜ elim r [ Ok _ ↦ Unit {0} | Err _ ↦ now (self .exit) ≡ now (self .entry) ] ⌝ }
-        ensures added { λ r. ⌜ elim r [ Ok _ ↦ LinkAdded (grid-of (now (self .entry))) left right strands (class-numbered class) (grid-of (now (self .exit))) | Err _ ↦ Unit {0} ] ⌝ }
+        ensures refused { λ r. ⌜ IfRefused r (λ _. now (self .exit) ≡ now (self .entry)) ⌝ }
+        ensures added { λ r. ⌜ IfMade r (λ _. LinkAdded (grid-of (now (self .entry))) left right strands (class-numbered class) (grid-of (now (self .exit)))) ⌝ }
     {
         let kind = self.check_link(left, right, strands, class)?;
         let at = left as usize * 24 + right as usize;

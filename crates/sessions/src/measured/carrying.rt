@@ -2,9 +2,11 @@ ghost use mathlib.Core.Path.{_≡_};
 ghost use Prim.Native.Nat.{ℕ};
 ghost use lib.ListN.{length};
 ghost use Rattle.std.specs.declared.option.Option.the-variants.{Some};
-ghost use Rattle.std.specs.declared.result.Result.the-variants.{Ok, Err};
+ghost use Rattle.std.specs.Vec.{refused as IfRefused};
+ghost use Rattle.designs.specs.Grids.{grid-of, on-ok};
+ghost use Rattle.designs.specs.Readings.{rows-of, read-rows};
 ghost use Rattle.sessions.specs.Scripts.{width-of};
-ghost use Rattle.sessions.specs.Stages.{stage-of, carried};
+ghost use Rattle.sessions.specs.Stages.{stage-of, carried, in-search};
 use super::Condition;
 use super::MeasuredSession;
 use crate::fault::ScriptFault;
@@ -24,6 +26,7 @@ use measures::measure::Measure;
 // Reads an offered drawing.
 fn read_offer(design: &Design, operands: &[u8]) -> Result<Drawing, SearchFault>
     requires { ⌜ length (now operands) ≡ 48 ⌝ }
+    ensures { λ r. ⌜ on-ok rows-of r ≡ in-search (read-rows (grid-of (now (design .entry))) (now (operands .entry))) ⌝ }
 {
     let drawing = Drawing::read(design, operands)?;
     Ok(drawing)
@@ -35,7 +38,7 @@ impl<M: Measure, R: Drop> MeasuredSession<M, R> {
         requires { ⌜ width-of letter ≡ Some (length (now operands)) ⌝ }
         ensures told { λ r. ⌜ r ≡ carried (Amount·Amount .kind) (M·Measure .priced) (stage-of (now (self .entry) .condition)) letter place (now (operands .entry)) .told ⌝ }
         ensures stage { λ _. ⌜ stage-of (now (self .exit) .condition) ≡ carried {M = M} (Amount·Amount .kind) (M·Measure .priced) (stage-of (now (self .entry) .condition)) letter place (now (operands .entry)) .stage ⌝ }
-        ensures refused { λ r. ⌜ elim r [ Ok _ ↦ Unit {0} | Err _ ↦ now (self .exit) ≡ now (self .entry) ] ⌝ }
+        ensures refused { λ r. ⌜ IfRefused r (λ _. now (self .exit) ≡ now (self .entry)) ⌝ }
         ensures rule { λ _. ⌜ now (self .exit) .rule ≡ now (self .entry) .rule ⌝ }
     {
         match (&mut self.condition, letter) {

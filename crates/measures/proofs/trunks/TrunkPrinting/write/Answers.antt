@@ -5,7 +5,8 @@ use native.Mathlib.Omega.{arith}
 use lib.ListN.{length, set, length-set}
 use Rattle.std.specs.Written.{decimal}
 use Rattle.measures.specs.Lines.{over}
-use Rattle.measures.proofs.Digits.{pair-length, short-decimal, over-append}
+use Rattle.measures.proofs.Digits.{pair-length, short-decimal}
+use Rattle.measures.proofs.Lines.{over-append}
 use Rattle.measures.proofs.trunks.TrunkPrinting.write.Needs as need
 
 pub put-decimal-slash-requires : need.put-decimal-slash-requires
