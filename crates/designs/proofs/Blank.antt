@@ -1,13 +1,9 @@
 -- A design without links keeps the limits.
-use Prim.Native.Nat.{ℕ, zero, suc, _≤_}
-use mathlib.Core.Path.{_≡_, refl, sym, ap}
-use mathlib.Core.Bool.{true}
-use native.Mathlib.Omega.{arith}
+use Prim.Native.Nat.{ℕ, zero, suc}
+use mathlib.Core.Path.{_≡_, refl}
 use lib.ListN.{getD, replicate}
-use Rattle.std.proofs.shelf.Ways.{tells}
-use Rattle.std.specs.declared.result.Result.the-variants.{Ok}
 use Rattle.measures.specs.declared.link.Class.the-variants.{Ordinary}
-use Rattle.designs.specs.Grids.{Grid, is-size, sized, blank}
+use Rattle.designs.specs.Grids.{Grid, no-links}
 use Rattle.designs.specs.declared.cell.Cells.{Cells}
 
 -- what a list of one value holds, past its end too
@@ -16,11 +12,6 @@ getD-same x zero k = refl
 getD-same x (suc n) zero = refl
 getD-same x (suc n) (suc k) = getD-same x n k
 
-pub size-says : (n : ℕ) → true ≡ is-size n → (1 ≤ n) × (n ≤ 24)
-size-says n e = grind (arith, tells)
-
-pub sized-blank : (n m : ℕ) (cs : Cells) → true ≡ is-size n → true ≡ is-size m
-    → cs .strands ≡ replicate 576 0 → cs .classes ≡ replicate 576 Ordinary → Ok (record { lefts = n; rights = m; cells = cs }) ≡ sized n m
-sized-blank n m cs p q s t =
-    let same : _≡_ {A = Grid} (record { lefts = n; rights = m; cells = cs }) (blank n m) = λ i. record { lefts = n; rights = m; cells = record { strands = s i; classes = t i } } in
-    rw (sym p, sym q) (ap Ok same)
+pub is-blank : (n m : ℕ) (cs : Cells) → cs .strands ≡ replicate 576 0 → cs .classes ≡ replicate 576 Ordinary → _≡_ {A = Grid} (record { lefts = n; rights = m; cells = cs }) (no-links n m)
+unfolding no-links
+is-blank n m cs s t = λ i. record { lefts = n; rights = m; cells = record { strands = s i; classes = t i } }

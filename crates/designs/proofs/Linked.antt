@@ -13,11 +13,7 @@ use Rattle.measures.specs.Prices.{is-trunk}
 use Rattle.measures.specs.declared.link.Class.{Class}
 use Rattle.measures.specs.declared.link.Class.the-variants.{Ordinary, Trunk}
 use Rattle.designs.specs.Cells.{index, cell-at}
-use Rattle.designs.specs.Grids.{Grid, cell-in, either-class, with-link, LinkAdded, link-check, class-numbered, in-link, on-ok, after-link}
-use Rattle.std.proofs.shelf.Ways.{tells}
-use Rattle.std.specs.declared.result.Result.{Result}
-use Rattle.std.specs.declared.result.Result.the-variants.{Ok, Err}
-use Rattle.designs.specs.declared.fault.DesignFault.{DesignFault}
+use Rattle.designs.specs.Grids.{Grid, cell-in, either-class, with-link, LinkAdded}
 
 -- what holds of every member and of the new one holds after a write
 pub set-keeps : {X : Type 0} (P : ℕ → X → Type 0) (xs : List X) (i : ℕ) (x d : X) → i < length xs
@@ -49,24 +45,15 @@ link-adds g a b s k ha hb ls lc =
           strands = getD-set-other (g .cells .strands) (index a b) (index x y) (cell-in g a b .strands + s) 0 apart i;
           class = getD-set-other (g .cells .classes) (index a b) (index x y) (either-class (cell-in g a b .class) k) Ordinary apart i } }
 
--- a link that passes the checks
-pub record Passed (g : Grid) (a b s c : ℕ) (k : Class) : Type 0 where
+-- a link that may be put in
+pub record Fitting (g : Grid) (a b s : ℕ) : Type 0 where
   pub lefts : a < g .lefts
   pub rights : b < g .rights
   pub some : 0 < s
   pub room : cell-in g a b .strands + s ≤ 255
-  pub class : k ≡ class-numbered c
-
-pub passed : (g : Grid) (a b s c : ℕ) (k : Class) → link-check g a b s c ≡ Ok k → Passed g a b s c k
-passed g a b s c k e = record {
-  lefts = grind (arith, tells);
-  rights = grind (arith, tells);
-  some = grind (arith, tells);
-  room = grind (arith, tells);
-  class = grind (arith, tells) }
 
 -- the limits that a design keeps, after such a link
-module _ (g : Grid) (a b s c : ℕ) (k new : Class) (ok : Passed g a b s c k) (same : new ≡ either-class (cell-in g a b .class) k)
+module _ (g : Grid) (a b s : ℕ) (k new : Class) (ok : Fitting g a b s) (same : new ≡ either-class (cell-in g a b .class) k)
     (small : (g .lefts ≤ 24) × (g .rights ≤ 24)) (ls : length (g .cells .strands) ≡ 576) (lc : length (g .cells .classes) ≡ 576) where
   inside : index a b < 576
   inside = omega (arith, ok .lefts, ok .rights)
@@ -87,22 +74,13 @@ module _ (g : Grid) (a b s c : ℕ) (k new : Class) (ok : Passed g a b s c k) (s
           (all j (sym (getD-set-other (g .cells .strands) (index a b) j (cell-in g a b .strands + s) 0 ne) ∙ h)))
       (cases-eq j (index a b))
 
--- what the cells are after such a link, in the words of the contract
-pub record Done (g : Grid) (a b s c : ℕ) (h : Grid) : Type 0 where
-  pub result : _≡_ {A = Result (Unit {0}) DesignFault} (Ok tt) (in-link (on-ok (λ _. tt) (link-check g a b s c)))
-  pub state : h ≡ after-link g a b s (link-check g a b s c)
-  pub added : LinkAdded g a b s (class-numbered c) h
-
 abbrev pub linked-cells : Grid → ℕ → ℕ → ℕ → Class → Grid
 linked-cells g a b s new = record { lefts = g .lefts; rights = g .rights; cells = record { strands = set (g .cells .strands) (index a b) (cell-in g a b .strands + s); classes = set (g .cells .classes) (index a b) new } }
 
-pub link-done : (g : Grid) (a b s c : ℕ) (k new : Class) → link-check g a b s c ≡ Ok k → new ≡ either-class (cell-in g a b .class) k
-    → (g .lefts ≤ 24) × (g .rights ≤ 24) → length (g .cells .strands) ≡ 576 → length (g .cells .classes) ≡ 576 → Done g a b s c (linked-cells g a b s new)
-link-done g a b s c k new e same small ls lc =
-    let ok = passed g a b s c k e in
+-- what the cells are after such a link
+pub put-in : (g : Grid) (a b s : ℕ) (k new : Class) → Fitting g a b s → new ≡ either-class (cell-in g a b .class) k
+    → (g .lefts ≤ 24) × (g .rights ≤ 24) → length (g .cells .strands) ≡ 576 → length (g .cells .classes) ≡ 576
+    → (linked-cells g a b s new ≡ with-link g a b s k) × LinkAdded g a b s k (linked-cells g a b s new)
+put-in g a b s k new ok same small ls lc =
     let is : linked-cells g a b s new ≡ with-link g a b s k = ap (linked-cells g a b s) same in
-    let added : LinkAdded g a b s (class-numbered c) (with-link g a b s (class-numbered c)) = link-adds g a b s (class-numbered c) (omega (arith, ok .lefts)) (omega (arith, ok .rights)) ls lc in
-    record {
-      result = rw e refl;
-      state = rw e is;
-      added = subst (LinkAdded g a b s (class-numbered c)) (sym (is ∙ ap (with-link g a b s) (ok .class))) added }
+    (is, subst (LinkAdded g a b s k) (sym is) (link-adds g a b s k (omega (arith, ok .lefts)) (omega (arith, ok .rights)) ls lc))

@@ -1,11 +1,9 @@
 -- A loop that joins amounts: what it has, joined with what is left, stays the whole.
-use Prim.Native.Nat.{ℕ, _+_, _-_, _<_, _≤_}
+use Prim.Native.Nat.{ℕ, _+_, _<_, _≤_}
 use mathlib.Core.Path.{_≡_, refl, sym, ap, _∙_}
 use mathlib.Core.List.{List, [], _∷_}
-use lib.ListN.{length, getD, take, drop}
-use Rattle.std.proofs.shelf.Lists.{at-drop-more, at-drop-all, take-rest}
-use Rattle.std.proofs.shelf.Elements.{all-take, all-drop}
-use Rattle.std.specs.shelf.Lists.{All}
+use lib.ListN.{length, getD, drop}
+use Rattle.std.proofs.shelf.Lists.{at-drop-more, at-drop-all}
 use Rattle.measures.specs.Amounts.{Kind, Lawful}
 use Rattle.designs.specs.Costs.{over-each, over-two}
 
@@ -37,16 +35,9 @@ module _ {A : Type 0} (K : Kind A) (laws : Lawful K) where
     each-end h inv = end (over-each K f) xs i sum h refl inv
 
   module _ (f : ℕ → ℕ → A) (xs : List ℕ) (i : ℕ) (sum : A) where
-    -- the members behind i, as a slice has them
-    pub two-turn : (new part : A) → i < length xs → new ≡ K .join sum part → part ≡ over-each K (f (getD xs i 0)) (take (length xs - (i + 1)) (drop (i + 1) xs))
+    pub two-turn : (new part : A) → i < length xs → new ≡ K .join sum part → part ≡ over-each K (f (getD xs i 0)) (drop (i + 1) xs)
         → Stays K (over-two K f) xs i sum → Stays K (over-two K f) xs (i + 1) new
-    two-turn new part h e p inv =
-        let all : part ≡ over-each K (f (getD xs i 0)) (drop (i + 1) xs) = p ∙ ap (over-each K (f (getD xs i 0))) (take-rest xs (i + 1)) in
-        turn (over-two K f) xs i sum (over-each K (f (getD xs i 0)) (drop (i + 1) xs)) new h refl (e ∙ ap (K .join sum) all) inv
+    two-turn new part h e p inv = turn (over-two K f) xs i sum (over-each K (f (getD xs i 0)) (drop (i + 1) xs)) new h refl (e ∙ ap (K .join sum) p) inv
 
     pub two-end : length xs ≤ i → Stays K (over-two K f) xs i sum → sum ≡ over-two K f xs
     two-end h inv = end (over-two K f) xs i sum h refl inv
-
--- what holds of each member holds of each behind i
-pub all-rest : (P : ℕ → Type 0) (xs : List ℕ) (i : ℕ) → All P xs → All P (take (length xs - i) (drop i xs))
-all-rest P xs i h = all-take P (length xs - i) (drop i xs) (all-drop P i xs h)

@@ -32,8 +32,8 @@ abbrev pub cell-in : Grid → ℕ → ℕ → Cell
 cell-in g = cell-at (g .cells)
 
 -- a design without links
-abbrev pub blank : ℕ → ℕ → Grid
-blank n m = record { lefts = n; rights = m; cells = record { strands = replicate 576 0; classes = replicate 576 Ordinary } }
+unfoldable pub no-links : ℕ → ℕ → Grid
+no-links n m = record { lefts = n; rights = m; cells = record { strands = replicate 576 0; classes = replicate 576 Ordinary } }
 
 abbrev pub is-size : ℕ → Bool
 is-size n = leb 1 n && leb n 24
@@ -43,7 +43,7 @@ on-ok f (Ok x) = Ok (f x)
 on-ok f (Err e) = Err e
 
 abbrev pub sized : ℕ → ℕ → Result Grid DesignFault
-sized n m = cond (is-size n && is-size m) (Ok (blank n m)) (Err Size)
+sized n m = cond (is-size n && is-size m) (Ok (no-links n m)) (Err Size)
 
 abbrev pub class-numbered : ℕ → Class
 class-numbered c = cond (eqb c 0) Ordinary Trunk

@@ -30,14 +30,18 @@ rows-of x = record { left = row-of (x .left); right = row-of (x .right) }
 abbrev pub first-rows : Grid → TwoRows
 first-rows g = record { left = number-order (g .lefts); right = number-order (g .rights) }
 
--- the drawing in 48 bytes: two rows of 24
-abbrev pub read-rows : Grid → List ℕ → Result TwoRows RowFault
-read-rows g bs =
-    cond (is-row (g .lefts) (take 24 bs))
-    (cond (is-row (g .rights) (drop 24 bs))
-      (Ok (record { left = take (g .lefts) (take 24 bs); right = take (g .rights) (drop 24 bs) }))
+-- two rows of n and m switches in 48 bytes, 24 each
+abbrev pub rows-in : ℕ → ℕ → List ℕ → Result TwoRows RowFault
+rows-in n m bs =
+    cond (is-row n (take 24 bs))
+    (cond (is-row m (drop 24 bs))
+      (Ok (record { left = take n (take 24 bs); right = take m (drop 24 bs) }))
       (Err RightRow))
     (Err LeftRow)
+
+-- the drawing of a design in 48 bytes
+abbrev pub read-rows : Grid → List ℕ → Result TwoRows RowFault
+read-rows g bs = rows-in (g .lefts) (g .rights) bs
 
 -- the cost of a drawing of a design
 abbrev pub cost-of : {A : Type 0} → Kind A → (Link → Link → A) → Grid → TwoRows → A

@@ -29,8 +29,8 @@ pub struct ChoiceFault {
 pub impl From<RowFault> for PartFault as PartFromRow {
     ghost converts = { λ f r. r ≡ InRow f };
 
-    fn from(fault: RowFault) -> PartFault {
-        PartFault::InRow(fault)
+    fn from(cause: RowFault) -> PartFault {
+        PartFault::InRow(cause)
     }
 }
 

@@ -8,6 +8,7 @@ use crate::cell::Cells;
 
 pub mod linking;
 pub mod pricing;
+pub mod reading;
 
 // A network design: 1 to 24 switches a side, and a cell for each left with each right switch.
 // A cell has at most 255 strands, and without strands it is ordinary.

@@ -8,20 +8,21 @@ use native.Mathlib.Omega.{arith}
 use lib.Dec.{leb, ltb, eqb}
 use Rattle.std.proofs.shelf.Ways.{tells}
 use Rattle.measures.specs.Amounts.{Lawful}
-use Rattle.measures.specs.Sums.{most}
+use Rattle.measures.specs.Sums.{most, plus}
 use Rattle.measures.specs.Pairs.{pairs, pair-held, rest-held}
 use Rattle.measures.specs.Prices.{trunk-price, is-trunk}
 use Rattle.measures.specs.declared.link.Link.{Link}
 use Rattle.measures.specs.declared.pair.Pair.{Pair}
 use Rattle.measures.proofs.Same.{pair-same}
+use Rattle.measures.proofs.SumLaws.{held-assoc}
 
-sum-comm : (m n : ℕ) → m + n ≡ n + m
-sum-comm m n = omega arith
+plus-comm : (m n : ℕ) → plus m n ≡ plus n m
+plus-comm m n = omega arith
 
-rest-unit : (a r : ℕ) → a ≤ most → r ≤ most → (a ≡ most → r ≡ most) → rest-held (min 0 most + a) (rest-held 0 0 + r) ≡ r
+rest-unit : (a r : ℕ) → a ≤ most → r ≤ most → (a ≡ most → r ≡ most) → rest-held (plus (min 0 most) a) (plus (rest-held 0 0) r) ≡ r
 rest-unit a r h k t = grind (arith, tells)
 
-rest-assoc : (a b c r s t : ℕ) → rest-held (min (a + b) most + c) (rest-held (a + b) (r + s) + t) ≡ rest-held (a + min (b + c) most) (r + rest-held (b + c) (s + t))
+rest-assoc : (a b c r s t : ℕ) → rest-held (plus (min (plus a b) most) c) (plus (rest-held (plus a b) (plus r s)) t) ≡ rest-held (plus a (min (plus b c) most)) (plus r (rest-held (plus b c) (plus s t)))
 rest-assoc a b c r s t = grind (arith, tells)
 
 -- the order of pairs
@@ -40,13 +41,13 @@ under-anti a r b s e f = grind (arith, tells)
 under-least : (a r : ℕ) → under (min 0 most) (rest-held 0 0) a r ≡ true
 under-least a r = grind (arith, tells)
 
-under-mono : (a r b s c t : ℕ) → under a r b s ≡ true → under (min (a + c) most) (rest-held (a + c) (r + t)) (min (b + c) most) (rest-held (b + c) (s + t)) ≡ true
+under-mono : (a r b s c t : ℕ) → under a r b s ≡ true → under (min (plus a c) most) (rest-held (plus a c) (plus r t)) (min (plus b c) most) (rest-held (plus b c) (plus s t)) ≡ true
 under-mono a r b s c t e = grind (arith, tells)
 
 pub pairs-lawful : Lawful pairs
 pairs-lawful = record {
-  assoc = λ x y z. pair-same _ _ (omega arith) (rest-assoc (x .trunk) (y .trunk) (z .trunk) (x .rest) (y .rest) (z .rest));
-  comm = λ x y. ap (λ n. pair-held n (x .rest + y .rest)) (sum-comm (x .trunk) (y .trunk)) ∙ ap (pair-held (y .trunk + x .trunk)) (sum-comm (x .rest) (y .rest));
+  assoc = λ x y z. pair-same _ _ (held-assoc (x .trunk) (y .trunk) (z .trunk)) (rest-assoc (x .trunk) (y .trunk) (z .trunk) (x .rest) (y .rest) (z .rest));
+  comm = λ x y. ap (λ n. pair-held n (plus (x .rest) (y .rest))) (plus-comm (x .trunk) (y .trunk)) ∙ ap (pair-held (plus (y .trunk) (x .trunk))) (plus-comm (x .rest) (y .rest));
   unit = λ x. pair-same _ _ (omega arith) (rest-unit (x .trunk) (x .rest) (omega arith) (omega arith) (x .top));
   total = λ x y. under-total (x .trunk) (x .rest) (y .trunk) (y .rest);
   trans = λ x y z p q. under-trans (x .trunk) (x .rest) (y .trunk) (y .rest) (z .trunk) (z .rest) p q;
@@ -64,27 +65,3 @@ pub trunks-exchanged : (a b : Link) → trunk-price a b ≡ trunk-price b a
 trunks-exchanged a b =
     ap (λ t. cond t (pair-held (a .strands * b .strands) 0) (pair-held 0 (a .strands * b .strands))) (or-comm (is-trunk (a .class)) (is-trunk (b .class)))
     ∙ ap (λ n. cond (is-trunk (b .class) || is-trunk (a .class)) (pair-held n 0) (pair-held 0 n)) (mul-comm (a .strands) (b .strands))
-
--- what the code of a join tests
-pub rest-over : (a b r s t : ℕ) → t ≡ min (a + b) most → t ≡ most → most ≡ rest-held (a + b) (r + s)
-rest-over a b r s t e f = grind (arith, tells)
-
-pub rest-under : (a b r s t : ℕ) → t ≡ min (a + b) most → (t ≡ most → ⊥) → min (r + s) most ≡ rest-held (a + b) (r + s)
-rest-under a b r s t e f = grind (arith, tells)
-
-pub rest-small : (t r : ℕ) → t ≤ 65025 → r ≤ 65025 → r ≡ rest-held t r
-rest-small t r h k = grind (arith, tells)
-
--- a price by its numbers
-module _ (a b : Link) (p : Pair) (n : ℕ) (is : n ≡ a .strands * b .strands) (small : n ≤ 65025) where
-  pub is-trunk-price : (is-trunk (a .class) || is-trunk (b .class)) ≡ true → p .trunk ≡ n → p .rest ≡ 0 → p ≡ trunk-price a b
-  is-trunk-price e u v =
-      let held : Pair = pair-held (a .strands * b .strands) 0 in
-      let same : p ≡ held = pair-same p held (omega arith) (v ∙ rest-small (a .strands * b .strands) 0 (omega arith) (omega arith)) in
-      rw e same
-
-  pub is-rest-price : (is-trunk (a .class) || is-trunk (b .class)) ≡ false → p .trunk ≡ 0 → p .rest ≡ n → p ≡ trunk-price a b
-  is-rest-price e u v =
-      let held : Pair = pair-held 0 (a .strands * b .strands) in
-      let same : p ≡ held = pair-same p held (omega arith) ((v ∙ is) ∙ rest-small 0 (a .strands * b .strands) (omega arith) (omega arith)) in
-      rw e same

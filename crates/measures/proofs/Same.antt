@@ -1,11 +1,9 @@
 -- Amounts with the same numbers are the same: a ghost field has one proof at most.
-use Prim.Native.Nat.{ℕ, _*_, _-_, _^_, _<_, _≤_, suc}
-use mathlib.Core.Path.{_≡_, refl, ap}
-use mathlib.Core.Bool.{Bool, true, false, cond, _||_}
+use Prim.Native.Nat.{ℕ, _-_, _^_, _<_, suc}
+use mathlib.Core.Path.{_≡_, ap}
 use mathlib.Core.HLevel.{Σ-prop-path, Π-prop, ×-prop}
-use native.Mathlib.Nat.{ℕ-set, mul-le-mul}
+use native.Mathlib.Nat.{ℕ-set}
 use native.Mathlib.Bridge.{le-prop}
-use native.Mathlib.Omega.{arith}
 use Rattle.measures.specs.declared.sum.Sum.{Sum}
 use Rattle.measures.specs.declared.pair.Pair.{Pair}
 
@@ -22,7 +20,3 @@ pair-same x y e f =
     let one : (p : ℕ × ℕ) → IsProp (P p) = λ p. ×-prop (×-prop (le-prop {n = suc (p .0)} {m = 2 ^ 64}) (le-prop {n = suc (p .1)} {m = 2 ^ 64})) (Π-prop (λ _. ℕ-set (p .1) (2 ^ 64 - 1))) in
     let same : _≡_ {A = ℕ × ℕ} (x .trunk, x .rest) (y .trunk, y .rest) = λ i. (e i, f i) in
     ap made (Σ-prop-path {B = P} one {u = ((x .trunk, x .rest), (x .fits, x .top))} {v = ((y .trunk, y .rest), (y .fits, y .top))} same)
-
--- the product of two links' strands
-pub product-small : (a b : ℕ) → a < 256 → b < 256 → a * b ≤ 65025
-product-small a b h k = mul-le-mul {n₁ = a} {m₁ = b} {n₂ = 255} {m₂ = 255} (omega arith) (omega arith)

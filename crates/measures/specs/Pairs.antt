@@ -7,7 +7,7 @@ use borrow.Author.Tests.{le-leb}
 use lib.Dec.{leb, ltb, eqb}
 use native.Mathlib.Omega.{arith}
 use Rattle.measures.specs.Amounts.{Kind}
-use Rattle.measures.specs.Sums.{most}
+use Rattle.measures.specs.Sums.{most, plus}
 use Rattle.measures.specs.declared.pair.Pair.{Pair}
 
 -- the rest beside a trunk part
@@ -20,7 +20,7 @@ rest-fits t r = elim (leb most t) as (λ b. cond b most (min r most) < 2 ^ 64) [
 pub rest-top : (t r : ℕ) → min t most ≡ most → rest-held t r ≡ most
 rest-top t r e = ap (λ b. cond b most (min r most)) (le-leb most t (omega arith))
 
--- two numbers, held at the top
+-- two numbers as an amount, held at the top
 abbrev pub pair-held : ℕ → ℕ → Pair
 pair-held t r = record { trunk = min t most; rest = rest-held t r; fits = (omega arith, rest-fits t r); top = rest-top t r }
 
@@ -28,4 +28,4 @@ abbrev pub pair-at-most : Pair → Pair → Bool
 pair-at-most x y = ltb (x .trunk) (y .trunk) || (eqb (x .trunk) (y .trunk) && leb (x .rest) (y .rest))
 
 abbrev pub pairs : Kind Pair
-pairs = record { zero = pair-held 0 0; join = λ x y. pair-held (x .trunk + y .trunk) (x .rest + y .rest); at-most = pair-at-most }
+pairs = record { zero = pair-held 0 0; join = λ x y. pair-held (plus (x .trunk) (y .trunk)) (plus (x .rest) (y .rest)); at-most = pair-at-most }

@@ -8,9 +8,13 @@ use Rattle.measures.specs.declared.sum.Sum.{Sum}
 abbrev pub most : ℕ
 most = 2 ^ 64 - 1
 
--- a number, held at the top
+-- the sum of two numbers, held at the top
+abbrev pub plus : ℕ → ℕ → ℕ
+plus m n = min (m + n) most
+
+-- a number as an amount, held at the top
 abbrev pub sum-held : ℕ → Sum
 sum-held n = record { value = min n most; fits = omega arith }
 
 abbrev pub sums : Kind Sum
-sums = record { zero = sum-held 0; join = λ x y. sum-held (x .value + y .value); at-most = λ x y. leb (x .value) (y .value) }
+sums = record { zero = sum-held 0; join = λ x y. sum-held (plus (x .value) (y .value)); at-most = λ x y. leb (x .value) (y .value) }

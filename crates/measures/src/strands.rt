@@ -28,7 +28,7 @@ pub impl Measure for ByStrands as StrandMeasure {
     }
 
     fn price(a: Link, b: Link) -> Sum {
-        Sum { value: a.strands as u64 * b.strands as u64 }
+        Sum::of(a.strands as u64 * b.strands as u64)
     }
 }
 

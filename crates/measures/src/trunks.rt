@@ -3,7 +3,7 @@ ghost use Rattle.measures.specs.Writings.{trunk-written};
 ghost use Rattle.measures.specs.Prices.{trunk-price};
 ghost use Rattle.measures.specs.declared.pair.Pair.{Pair};
 use crate::amount::Amount;
-use crate::line::put_decimal;
+use crate::line::put_parted;
 use crate::link::Link;
 use crate::measure::Measure;
 use crate::measure::PrintingMeasure;
@@ -31,9 +31,9 @@ pub impl Measure for ByTrunks as TrunkMeasure {
         let product = a.strands as u64 * b.strands as u64;
         let either = a.class.is_trunk() | b.class.is_trunk();
         if either {
-            return Pair { trunk: product, rest: 0 };
+            return Pair::of(product, 0);
         }
-        Pair { trunk: 0, rest: product }
+        Pair::of(0, product)
     }
 }
 
@@ -41,8 +41,6 @@ pub impl PrintingMeasure for ByTrunks as TrunkPrinting {
     ghost written = { trunk-written };
 
     fn write(amount: Pair, line: &mut [u8], at: usize) -> usize {
-        let slash = put_decimal(line, at, amount.trunk);
-        line[slash] = b'/';
-        put_decimal(line, slash + 1, amount.rest)
+        put_parted(line, at, amount.trunk, amount.rest)
     }
 }

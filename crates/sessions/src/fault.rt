@@ -43,8 +43,8 @@ pub enum ScriptFault {
 pub impl From<RowFault> for SearchFault as SearchFromRow {
     ghost converts = { λ f r. r ≡ InRow f };
 
-    fn from(fault: RowFault) -> SearchFault {
-        SearchFault::InRow(fault)
+    fn from(cause: RowFault) -> SearchFault {
+        SearchFault::InRow(cause)
     }
 }
 

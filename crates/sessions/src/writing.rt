@@ -13,7 +13,8 @@ use measures::line::put_number;
 use measures::measure::PrintingMeasure;
 
 fn layer_name(layer: Layer) -> &'static [u8]
-    ensures { λ r. ⌜ now r ≡ layer-name layer ⌝ }
+    ensures name { λ r. ⌜ now r ≡ layer-name layer ⌝ }
+    ensures short { λ r. ⌜ length (now r) ≤ 6 ⌝ }
 {
     match layer {
         Layer::Script => b"script",
@@ -24,7 +25,8 @@ fn layer_name(layer: Layer) -> &'static [u8]
 }
 
 fn offer_word(taken: bool) -> &'static [u8]
-    ensures { λ r. ⌜ now r ≡ offer-word taken ⌝ }
+    ensures word { λ r. ⌜ now r ≡ offer-word taken ⌝ }
+    ensures short { λ r. ⌜ length (now r) ≤ 5 ⌝ }
 {
     if taken { b"taken" } else { b"kept" }
 }

@@ -5,10 +5,8 @@ ghost use lib.ListN.{replicate};
 ghost use Rattle.std.specs.Vec.{made as IfMade, refused as IfRefused};
 ghost use Rattle.measures.specs.declared.link.Class.the-variants.{Ordinary, Trunk};
 ghost use Rattle.designs.specs.declared.fault.DesignFault.the-variants.{InLink};
-ghost use Rattle.designs.specs.Cells.{cell-at};
-ghost use Rattle.designs.specs.Grids.{grid-of, is-size, sized, on-ok, link-check, in-link, after-link, either-class, class-numbered, cell-in, LinkAdded};
+ghost use Rattle.designs.specs.Grids.{grid-of, is-size, no-links, sized, on-ok, link-check, in-link, after-link, with-link, either-class, class-numbered, cell-in, LinkAdded};
 use super::Design;
-use crate::cell::Cell;
 use crate::cell::Cells;
 use crate::fault::DesignFault;
 use crate::fault::LinkFault;
@@ -45,6 +43,15 @@ fn either_class(x: Class, y: Class) -> Class
     if x.is_trunk() | y.is_trunk() { Class::Trunk } else { Class::Ordinary }
 }
 
+// A design of lawful sizes without links.
+fn blank(left: u8, right: u8) -> Design
+    requires { ⌜ (1 ≤ left) × (left ≤ 24) ⌝ ∗ ⌜ (1 ≤ right) × (right ≤ 24) ⌝ }
+    ensures { λ r. ⌜ grid-of r ≡ no-links left right ⌝ }
+{
+    let cells = no_cells();
+    Design { left, right, cells }
+}
+
 impl Design {
     // A design of these sizes without links.
     pub fn empty(left: u8, right: u8) -> Result<Design, DesignFault>
@@ -56,31 +63,7 @@ impl Design {
         if !is_size(right) {
             return Err(DesignFault::Size);
         }
-        let cells = no_cells();
-        Ok(Design { left, right, cells })
-    }
-
-    pub fn left_size(&self) -> u8
-        ensures value { λ r. ⌜ r ≡ grid-of (now (self .entry)) .lefts ⌝ }
-        ensures bound { λ r. ⌜ (1 ≤ r) × (r ≤ 24) ⌝ }
-    {
-        self.left
-    }
-
-    pub fn right_size(&self) -> u8
-        ensures value { λ r. ⌜ r ≡ grid-of (now (self .entry)) .rights ⌝ }
-        ensures bound { λ r. ⌜ (1 ≤ r) × (r ≤ 24) ⌝ }
-    {
-        self.right
-    }
-
-    // The cell of a left and a right switch.
-    pub fn cell(&self, left: u8, right: u8) -> Cell
-        requires { ⌜ (left < 24) × (right < 24) ⌝ }
-        ensures { λ r. ⌜ r ≡ cell-in (grid-of (now (self .entry))) left right ⌝ }
-    {
-        let at = left as usize * 24 + right as usize;
-        Cell { strands: self.cells.strands[at], class: self.cells.classes[at] }
+        Ok(blank(left, right))
     }
 
     // Whether a link may be put in, and its class.
@@ -103,6 +86,17 @@ impl Design {
         Ok(if class == 0 { Class::Ordinary } else { Class::Trunk })
     }
 
+    // Puts a link in that may be put in.
+    fn put_in(&mut self, left: u8, right: u8, strands: u8, class: Class)
+        requires { ⌜ (left < now self .left) × (right < now self .right) ⌝ ∗ ⌜ (0 < strands) × (cell-in (grid-of (now self)) left right .strands + strands ≤ 255) ⌝ }
+        ensures state { λ _. ⌜ grid-of (now (self .exit)) ≡ with-link (grid-of (now (self .entry))) left right strands class ⌝ }
+        ensures added { λ _. ⌜ LinkAdded (grid-of (now (self .entry))) left right strands class (grid-of (now (self .exit))) ⌝ }
+    {
+        let at = left as usize * 24 + right as usize;
+        self.cells.strands[at] += strands;
+        self.cells.classes[at] = either_class(self.cells.classes[at], class);
+    }
+
     // Puts a link in: its cell gets the strands added, and is trunk if either link is.
     pub fn link(&mut self, left: u8, right: u8, strands: u8, class: u8) -> Result<(), DesignFault>
         ensures result { λ r. ⌜ r ≡ in-link (on-ok (λ _. tt) (link-check (grid-of (now (self .entry))) left right strands class)) ⌝ }
@@ -111,9 +105,7 @@ impl Design {
         ensures added { λ r. ⌜ IfMade r (λ _. LinkAdded (grid-of (now (self .entry))) left right strands (class-numbered class) (grid-of (now (self .exit)))) ⌝ }
     {
         let kind = self.check_link(left, right, strands, class)?;
-        let at = left as usize * 24 + right as usize;
-        self.cells.strands[at] += strands;
-        self.cells.classes[at] = either_class(self.cells.classes[at], kind);
+        self.put_in(left, right, strands, kind);
         Ok(())
     }
 }

@@ -1,14 +1,16 @@
 ghost use mathlib.Core.Path.{_≡_};
-ghost use Prim.Native.Nat.{ℕ, _<_};
+ghost use Prim.Native.Nat.{ℕ, _+_, _<_};
+ghost use lib.ListN.{length, drop};
 ghost use Rattle.std.specs.shelf.Lists.{All};
 ghost use Rattle.designs.specs.Cells.{crossing};
-ghost use Rattle.designs.specs.Costs.{over-each, over-two, between, CostByRightPairs};
+ghost use Rattle.designs.specs.Costs.{cost, over-each, over-two, between, CostByRightPairs};
 ghost use Rattle.designs.specs.Crossings.{CountedOnce, SharersNeverCross};
 ghost use Rattle.designs.specs.Grids.{grid-of, cell-in};
-ghost use Rattle.designs.specs.Readings.{rows-of, cost-of};
+ghost use Rattle.designs.specs.Readings.{row-of, rows-of, cost-of};
 use super::Design;
 use crate::cell::Cell;
 use crate::drawing::Drawing;
+use crate::row::Row;
 use measures::amount::Amount;
 use measures::link::Link;
 use measures::measure::Measure;
@@ -21,6 +23,15 @@ pub fn crossing_price<M: Measure>(x: Cell, y: Cell) -> M::Amount
         return <M::Amount as Amount>::nothing();
     }
     M::price(Link { strands: x.strands, class: x.class }, Link { strands: y.strands, class: y.class })
+}
+
+// The switches behind the one at place i of a row.
+fn behind(row: &[u8], i: usize) -> &[u8]
+    requires { ⌜ i < length (now row) ⌝ }
+    ensures { λ r. ⌜ now r ≡ drop (i + 1) (now (row .entry)) ⌝ }
+{
+    let (_, later) = row.split_at(i + 1);
+    later
 }
 
 impl Design {
@@ -37,14 +48,14 @@ impl Design {
     }
 
     // What the crossings between links of u and links of v cost, u before v.
-    pub fn price_between<M: Measure>(&self, left: &[u8], u: u8, v: u8) -> M::Amount
+    fn price_between<M: Measure>(&self, left: &[u8], u: u8, v: u8) -> M::Amount
         requires { ⌜ All (λ a. a < 24) (now left) ⌝ ∗ ⌜ (u < 24) × (v < 24) ⌝ }
         ensures { λ r. ⌜ r ≡ between (Amount·Amount .kind) (M·Measure .priced) (cell-in (grid-of (now (self .entry)))) (now (left .entry)) u v ⌝ }
     {
         let mut sum = <M::Amount as Amount>::nothing();
         for i in 0..left.len() {
             let cell = self.cell(left[i], v);
-            sum = sum.joined(self.with_later_left::<M>(cell, &left[i + 1..], u));
+            sum = sum.joined(self.with_later_left::<M>(cell, behind(left, i), u));
         }
         sum
     }
@@ -67,9 +78,19 @@ impl Design {
     {
         let mut sum = <M::Amount as Amount>::nothing();
         for i in 0..right.len() {
-            sum = sum.joined(self.with_later_right::<M>(left, right[i], &right[i + 1..]));
+            sum = sum.joined(self.with_later_right::<M>(left, right[i], behind(right, i)));
         }
         sum
+    }
+
+    // The cost of a drawing with these rows, and what is counted in it.
+    fn cost_of_rows<M: Measure>(&self, left: &Row, right: &Row) -> M::Amount
+        ensures value { λ r. ⌜ r ≡ cost (Amount·Amount .kind) (M·Measure .priced) (cell-in (grid-of (now (self .entry)))) (row-of (now (left .entry))) (row-of (now (right .entry))) ⌝ }
+        ensures counted { λ _. ⌜ CountedOnce (cell-in (grid-of (now (self .entry)))) (row-of (now (left .entry))) (row-of (now (right .entry))) ⌝ }
+        ensures sharers { λ _. ⌜ SharersNeverCross (row-of (now (left .entry))) (row-of (now (right .entry))) ⌝ }
+        ensures by_pairs { λ _. ⌜ CostByRightPairs (Amount·Amount .kind) (M·Measure .priced) (cell-in (grid-of (now (self .entry)))) (row-of (now (left .entry))) (row-of (now (right .entry))) ⌝ }
+    {
+        self.price_of_rows::<M>(left.switches(), right.switches())
     }
 
     // The cost of a drawing: the join of the prices of its crossings.
@@ -79,6 +100,6 @@ impl Design {
         ensures sharers { λ _. ⌜ SharersNeverCross (rows-of (now (drawing .entry)) .left) (rows-of (now (drawing .entry)) .right) ⌝ }
         ensures by_pairs { λ _. ⌜ CostByRightPairs (Amount·Amount .kind) (M·Measure .priced) (cell-in (grid-of (now (self .entry)))) (rows-of (now (drawing .entry)) .left) (rows-of (now (drawing .entry)) .right) ⌝ }
     {
-        self.price_of_rows::<M>(drawing.left.switches(), drawing.right.switches())
+        self.cost_of_rows::<M>(&drawing.left, &drawing.right)
     }
 }

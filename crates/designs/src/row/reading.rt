@@ -35,13 +35,6 @@ fn is_filler(bytes: &[u8]) -> bool
 }
 
 impl Row {
-    // How many switches the row names.
-    pub fn size(&self) -> u8
-        ensures { λ r. ⌜ r ≡ now (self .entry) .size ⌝ }
-    {
-        self.size
-    }
-
     // The switches in their order.
     pub fn switches(&self) -> &[u8]
         ensures { λ r. ⌜ now r ≡ row-of (now (self .entry)) ⌝ }
@@ -51,7 +44,7 @@ impl Row {
     }
 
     // Reads a row of `size` switches from 24 bytes; none where they are not an order of them and then 255s.
-    pub fn read(bytes: &[u8], size: u8) -> Option<Row>
+    pub(crate) fn read(bytes: &[u8], size: u8) -> Option<Row>
         requires { ⌜ (1 ≤ size) × (size ≤ 24) ⌝ ∗ ⌜ length (now bytes) ≡ 24 ⌝ }
         ensures value { λ r. ⌜ BySome r (is-row size (now (bytes .entry)) ≡ false) (λ row. (is-row size (now (bytes .entry)) ≡ true) × (row .size ≡ size) × (row .switches ≡ now (bytes .entry))) ⌝ }
         ensures meaning { λ _. ⌜ Decides (is-row size (now (bytes .entry))) (RowBytes size (now (bytes .entry))) ⌝ }
@@ -69,7 +62,7 @@ impl Row {
     }
 
     // The switches in number order.
-    pub fn in_number_order(size: u8) -> Row
+    pub(crate) fn in_number_order(size: u8) -> Row
         requires { ⌜ (1 ≤ size) × (size ≤ 24) ⌝ }
         ensures size { λ r. ⌜ r .size ≡ size ⌝ }
         ensures switches { λ r. ⌜ row-of r ≡ number-order size ⌝ }
