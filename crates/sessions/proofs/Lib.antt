@@ -1,3 +1,1 @@
-pub mod Commands
-pub mod Outcomes
 pub mod Written

@@ -1,4 +1,7 @@
 ghost use mathlib.Core.Path.{_≡_};
+ghost use Prim.Native.Nat.{ℕ, _<_, _≤_};
+ghost use lib.ListN.{length};
+ghost use Rattle.std.specs.Vec.{made as IfMade};
 ghost use Rattle.sessions.specs.Scripts.{width-of, read-command, next-after};
 use crate::fault::ScriptFault;
 
@@ -32,7 +35,8 @@ fn operand_width(letter: char) -> Option<usize>
 
 // Reads the command at a byte of the script, for a line with this much room.
 pub fn read_command(script: &[u8], place: usize, room: usize) -> Result<Command, ScriptFault>
-    ensures { λ r. ⌜ r ≡ read-command (now (script .entry)) place room ⌝ }
+    ensures value { λ r. ⌜ r ≡ read-command (now (script .entry)) place room ⌝ }
+    ensures found { λ r. ⌜ IfMade r (λ c. (c .place ≡ place) × (place < c .next) × (c .next ≤ length (now (script .entry)))) ⌝ }
 {
     if room < LINE {
         return Err(ScriptFault::ShortLine { place });

@@ -5,7 +5,7 @@ ghost use lib.ListN.{replicate};
 ghost use Rattle.std.specs.Vec.{made as IfMade, refused as IfRefused};
 ghost use Rattle.measures.specs.declared.link.Class.the-variants.{Ordinary, Trunk};
 ghost use Rattle.designs.specs.declared.fault.DesignFault.the-variants.{InLink};
-ghost use Rattle.designs.specs.Grids.{grid-of, is-size, no-links, sized, on-ok, link-check, in-link, after-link, with-link, either-class, class-numbered, cell-in, LinkAdded};
+ghost use Rattle.designs.specs.Grids.{grid-of, is-size, no-links, sized, on-ok, link-check, in-link, after-link, with-link, either-class, cell-in, LinkAdded};
 use super::Design;
 use crate::cell::Cells;
 use crate::fault::DesignFault;
@@ -97,15 +97,15 @@ impl Design {
         self.cells.classes[at] = either_class(self.cells.classes[at], class);
     }
 
-    // Puts a link in: its cell gets the strands added, and is trunk if either link is.
-    pub fn link(&mut self, left: u8, right: u8, strands: u8, class: u8) -> Result<(), DesignFault>
-        ensures result { λ r. ⌜ r ≡ in-link (on-ok (λ _. tt) (link-check (grid-of (now (self .entry))) left right strands class)) ⌝ }
+    // Puts a link in, and answers its class: its cell gets the strands added, and is trunk if either link is.
+    pub fn link(&mut self, left: u8, right: u8, strands: u8, class: u8) -> Result<Class, DesignFault>
+        ensures result { λ r. ⌜ r ≡ in-link (link-check (grid-of (now (self .entry))) left right strands class) ⌝ }
         ensures state { λ _. ⌜ grid-of (now (self .exit)) ≡ after-link (grid-of (now (self .entry))) left right strands (link-check (grid-of (now (self .entry))) left right strands class) ⌝ }
         ensures refused { λ r. ⌜ IfRefused r (λ _. now (self .exit) ≡ now (self .entry)) ⌝ }
-        ensures added { λ r. ⌜ IfMade r (λ _. LinkAdded (grid-of (now (self .entry))) left right strands (class-numbered class) (grid-of (now (self .exit)))) ⌝ }
+        ensures added { λ r. ⌜ IfMade r (λ k. LinkAdded (grid-of (now (self .entry))) left right strands k (grid-of (now (self .exit)))) ⌝ }
     {
         let kind = self.check_link(left, right, strands, class)?;
         self.put_in(left, right, strands, kind);
-        Ok(())
+        Ok(kind)
     }
 }

@@ -22,7 +22,7 @@ impl Design {
     }
 
     // The cell of a left and a right switch.
-    pub fn cell(&self, left: u8, right: u8) -> Cell
+    pub(crate) fn cell(&self, left: u8, right: u8) -> Cell
         requires { ⌜ (left < 24) × (right < 24) ⌝ }
         ensures { λ r. ⌜ r ≡ cell-in (grid-of (now (self .entry))) left right ⌝ }
     {

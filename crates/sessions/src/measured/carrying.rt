@@ -19,7 +19,6 @@ use crate::search::Search;
 use crate::telling::Telling;
 use designs::design::Design;
 use designs::drawing::Drawing;
-use measures::link::Class;
 use measures::link::Link;
 use measures::measure::Measure;
 
@@ -34,7 +33,7 @@ fn read_offer(design: &Design, operands: &[u8]) -> Result<Drawing, SearchFault>
 
 impl<M: Measure, R: Drop> MeasuredSession<M, R> {
     // Carries out a command that has all its operands.
-    pub fn carry_out(&mut self, letter: char, place: usize, operands: &[u8]) -> Result<Telling<M>, ScriptFault>
+    pub(super) fn carry_out(&mut self, letter: char, place: usize, operands: &[u8]) -> Result<Telling<M>, ScriptFault>
         requires { ⌜ width-of letter ≡ Some (length (now operands)) ⌝ }
         ensures told { λ r. ⌜ r ≡ carried (Amount·Amount .kind) (M·Measure .priced) (stage-of (now (self .entry) .condition)) letter place (now (operands .entry)) .told ⌝ }
         ensures stage { λ _. ⌜ stage-of (now (self .exit) .condition) ≡ carried {M = M} (Amount·Amount .kind) (M·Measure .priced) (stage-of (now (self .entry) .condition)) letter place (now (operands .entry)) .stage ⌝ }
@@ -42,19 +41,13 @@ impl<M: Measure, R: Drop> MeasuredSession<M, R> {
         ensures rule { λ _. ⌜ now (self .exit) .rule ≡ now (self .entry) .rule ⌝ }
     {
         match (&mut self.condition, letter) {
-            (Condition::Set, 'D') => {
-                let design = at_place(Design::empty(operands[0], operands[1]), place)?;
-                self.condition = Condition::Filling(design);
-                Ok(Telling::Sized { left: operands[0], right: operands[1] })
-            }
-            (Condition::Searching(_), 'D') => {
+            (Condition::Set | Condition::Searching(_), 'D') => {
                 let design = at_place(Design::empty(operands[0], operands[1]), place)?;
                 self.condition = Condition::Filling(design);
                 Ok(Telling::Sized { left: operands[0], right: operands[1] })
             }
             (Condition::Filling(design), 'L') => {
-                at_place(design.link(operands[0], operands[1], operands[2], operands[3]), place)?;
-                let class = if operands[3] == 0 { Class::Ordinary } else { Class::Trunk };
+                let class = at_place(design.link(operands[0], operands[1], operands[2], operands[3]), place)?;
                 Ok(Telling::Linked { left: operands[0], right: operands[1], link: Link { strands: operands[2], class } })
             }
             (Condition::Filling(design), 'C') => {

@@ -3,9 +3,11 @@ ghost use Prim.Native.Nat.{ℕ, _+_, _≤_, _<_};
 ghost use lib.ListN.{length, getD};
 ghost use Rattle.std.specs.Options.{Cases as BySome};
 ghost use Rattle.designs.specs.Grids.{on-ok};
+ghost use Rattle.sessions.specs.Calls.{called};
 ghost use Rattle.sessions.specs.Scripts.{read-command, next-byte};
 ghost use Rattle.sessions.specs.Sessions.{whole-of, rule-numbered, set-up, placed-set-up, outcome, fault-in};
-ghost use Rattle.sessions.specs.Texts.{if-room, refusal-line, written-on};
+ghost use Rattle.sessions.specs.Stages.{stage-of};
+ghost use Rattle.sessions.specs.Texts.{answer-line, if-room, refusal-line, written-on};
 ghost use Rattle.std.specs.declared.option.Option.the-variants.{Some};
 use super::Answer;
 use super::Session;
@@ -21,6 +23,7 @@ use crate::rule::Rule;
 use crate::telling::Telling;
 use crate::writing::write_refusal;
 use measures::measure::Measure;
+use measures::measure::PrintingMeasure;
 use measures::strands::ByStrands;
 use measures::strands::StrandMeasure;
 use measures::strands::StrandPrinting;
@@ -83,6 +86,20 @@ fn fault_of<M: Measure>(told: Result<Telling<M>, ScriptFault>) -> Option<ScriptF
     }
 }
 
+// A call of a session that has a measure.
+fn measured_call<P: PrintingMeasure>(session: &mut MeasuredSession<P, Rule>, script: &[u8], place: usize, line: &mut [u8]) -> Answer
+    ensures refused { λ r. ⌜ r .refused ≡ fault-in (called {M = P} (Amount·Amount .kind) (P·Measure .priced) (stage-of (now (session .entry) .condition)) (now (script .entry)) place (length (now (line .entry))) .told) ⌝ }
+    ensures next { λ r. ⌜ r .next ≡ next-byte (now (script .entry)) place (read-command (now (script .entry)) place (length (now (line .entry)))) ⌝ }
+    ensures wrote { λ r. ⌜ r .wrote ≡ length (if-room (length (now (line .entry))) (answer-line written (called {M = P} (Amount·Amount .kind) (P·Measure .priced) (stage-of (now (session .entry) .condition)) (now (script .entry)) place (length (now (line .entry))) .told))) ⌝ }
+    ensures bytes { λ _. ⌜ now (line .exit) ≡ written-on (now (line .entry)) (if-room (length (now (line .entry))) (answer-line written (called {M = P} (Amount·Amount .kind) (P·Measure .priced) (stage-of (now (session .entry) .condition)) (now (script .entry)) place (length (now (line .entry))) .told))) ⌝ }
+    ensures stage { λ _. ⌜ stage-of (now (session .exit) .condition) ≡ called {M = P} (Amount·Amount .kind) (P·Measure .priced) (stage-of (now (session .entry) .condition)) (now (script .entry)) place (length (now (line .entry))) .stage ⌝ }
+    ensures kept { λ r. ⌜ BySome (r .refused) (Unit {0}) (λ _. now (session .exit) ≡ now (session .entry)) ⌝ }
+    ensures rule { λ _. ⌜ now (session .exit) .rule ≡ now (session .entry) .rule ⌝ }
+{
+    let reply = session.call_on_line(script, place, line);
+    Answer { refused: fault_of(reply.told), next: reply.next, wrote: reply.wrote }
+}
+
 impl Session {
     // A session that no command has reached yet.
     pub fn new() -> Session
@@ -114,14 +131,8 @@ impl Session {
                 Err(fault) => refuse(line, fault, command.next),
             },
             (Session::Fresh, _) => refuse(line, ScriptFault::WrongCondition { place }, command.next),
-            (Session::ByStrands(session), _) => {
-                let reply = session.call_on_line(script, place, line);
-                Answer { refused: fault_of(reply.told), next: reply.next, wrote: reply.wrote }
-            }
-            (Session::ByTrunks(session), _) => {
-                let reply = session.call_on_line(script, place, line);
-                Answer { refused: fault_of(reply.told), next: reply.next, wrote: reply.wrote }
-            }
+            (Session::ByStrands(session), _) => measured_call(session, script, place, line),
+            (Session::ByTrunks(session), _) => measured_call(session, script, place, line),
         }
     }
 }
