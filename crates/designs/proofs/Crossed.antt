@@ -90,8 +90,14 @@ listed-joined p q left [] = omega arith
 listed-joined p q left (uv ∷ ps) =
     let n : ℕ = ordered (p .left) (q .left) (pairs left) in
     let here : ℕ = cond (eqb (uv .0) (q .right) && eqb (uv .1) (p .right)) 1 0 in
-    omega (arith, listed-append p q (meetings left uv) (joined (meetings left) ps), listed-meetings p q uv (pairs left),
-      cond-times (eqb (uv .0) (q .right) && eqb (uv .1) (p .right)) n, listed-joined p q left ps, mul-add n here (ordered (q .right) (p .right) ps))
+    omega (
+      arith,
+      listed-append p q (meetings left uv) (joined (meetings left) ps),
+      listed-meetings p q uv (pairs left),
+      cond-times (eqb (uv .0) (q .right) && eqb (uv .1) (p .right)) n,
+      listed-joined p q left ps,
+      mul-add n here (ordered (q .right) (p .right) ps),
+    )
 
 pub sharers-never-cross : (left right : List ℕ) → SharersNeverCross left right
 sharers-never-cross left right p q =

@@ -33,7 +33,7 @@ module _ {A : Type 0} (K : Kind A) (laws : Lawful K) where
   total-kept t f (x ∷ xs) =
       let rest : A = total K (map (λ y. cond (t y) (f y) (K .zero)) xs) in
       elim (t x) as (λ b. total K (map f (cond b (x ∷ kept-by t xs) (kept-by t xs))) ≡ K .join (cond b (f x) (K .zero)) rest)
-        [ true ↦ ap (K .join (f x)) (total-kept t f xs) | false ↦ total-kept t f xs ∙ sym (laws .unit rest) ]
+      [ true ↦ ap (K .join (f x)) (total-kept t f xs) | false ↦ total-kept t f xs ∙ sym (laws .unit rest) ]
 
   total-joined : {X Y : Type 0} (f : Y → A) (g : X → List Y) (xs : List X) → total K (map f (joined g xs)) ≡ total K (map (λ x. total K (map f (g x))) xs)
   total-joined f g [] = refl

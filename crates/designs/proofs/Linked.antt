@@ -20,7 +20,7 @@ pub set-keeps : {X : Type 0} (P : ℕ → X → Type 0) (xs : List X) (i : ℕ) 
     → ((k : ℕ) → P k (getD xs k d)) → P i x → (k : ℕ) → P k (getD (set xs i x) k d)
 set-keeps P xs i x d h all here k =
     ⊎-elim (λ e. subst (λ j. P j (getD (set xs i x) j d)) (sym e) (rw (getD-set-same xs i x d h) here))
-           (λ ne. rw (getD-set-other xs i k x d ne) (all k)) (cases-eq k i)
+    (λ ne. rw (getD-set-other xs i k x d ne) (all k)) (cases-eq k i)
 
 pub either-trunk : (x y : Class) → is-trunk (either-class x y) ≡ (is-trunk x || is-trunk y)
 either-trunk Ordinary Ordinary = refl
@@ -40,10 +40,12 @@ link-adds g a b s k ha hb ls lc =
       strands = getD-set-same (g .cells .strands) (index a b) _ 0 here;
       trunk = ap is-trunk (getD-set-same (g .cells .classes) (index a b) _ Ordinary there) ∙ either-trunk (cell-in g a b .class) k;
       elsewhere = λ x y h ne.
-        let apart : index x y ≡ index a b → ⊥ = λ e. ne (index-apart a b x y hb h e) in
-        λ i. record {
-          strands = getD-set-other (g .cells .strands) (index a b) (index x y) (cell-in g a b .strands + s) 0 apart i;
-          class = getD-set-other (g .cells .classes) (index a b) (index x y) (either-class (cell-in g a b .class) k) Ordinary apart i } }
+          let apart : index x y ≡ index a b → ⊥ = λ e. ne (index-apart a b x y hb h e) in
+          λ i. record {
+            strands = getD-set-other (g .cells .strands) (index a b) (index x y) (cell-in g a b .strands + s) 0 apart i;
+            class = getD-set-other (g .cells .classes) (index a b) (index x y) (either-class (cell-in g a b .class) k) Ordinary apart i;
+          };
+    }
 
 -- a link that may be put in
 pub record Fitting (g : Grid) (a b s : ℕ) : Type 0 where
@@ -65,13 +67,13 @@ module _ (g : Grid) (a b s : ℕ) (k new : Class) (ok : Fitting g a b s) (same :
       → (j : ℕ) → getD (set (g .cells .strands) (index a b) (cell-in g a b .strands + s)) j 0 ≡ 0 → is-trunk (getD (set (g .cells .classes) (index a b) new) j Ordinary) ≡ false
   quiet-kept all j = ⊎-elim
       (λ e h.
-        let here : getD (set (g .cells .strands) (index a b) (cell-in g a b .strands + s)) (index a b) 0 ≡ cell-in g a b .strands + s
-              = getD-set-same (g .cells .strands) (index a b) (cell-in g a b .strands + s) 0 (omega (arith, inside)) in
-        let none : cell-in g a b .strands + s ≡ 0 = sym here ∙ (ap (λ i. getD (set (g .cells .strands) (index a b) (cell-in g a b .strands + s)) i 0) (sym e) ∙ h) in
-        let no : ⊥ = omega (arith, ok .some) in absurd no)
+      let here : getD (set (g .cells .strands) (index a b) (cell-in g a b .strands + s)) (index a b) 0 ≡ cell-in g a b .strands + s
+      = getD-set-same (g .cells .strands) (index a b) (cell-in g a b .strands + s) 0 (omega (arith, inside)) in
+      let none : cell-in g a b .strands + s ≡ 0 = sym here ∙ (ap (λ i. getD (set (g .cells .strands) (index a b) (cell-in g a b .strands + s)) i 0) (sym e) ∙ h) in
+      let no : ⊥ = omega (arith, ok .some) in absurd no)
       (λ ne h.
-        rw (getD-set-other (g .cells .classes) (index a b) j new Ordinary ne)
-          (all j (sym (getD-set-other (g .cells .strands) (index a b) j (cell-in g a b .strands + s) 0 ne) ∙ h)))
+      rw (getD-set-other (g .cells .classes) (index a b) j new Ordinary ne)
+      (all j (sym (getD-set-other (g .cells .strands) (index a b) j (cell-in g a b .strands + s) 0 ne) ∙ h)))
       (cases-eq j (index a b))
 
 abbrev pub linked-cells : Grid → ℕ → ℕ → ℕ → Class → Grid

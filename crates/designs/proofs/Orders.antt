@@ -79,8 +79,9 @@ times-getD (x ∷ xs) (suc i) l = omega (arith, times-getD xs i (omega arith))
 has-from-times : (x : ℕ) (xs : List ℕ) → 1 ≤ times x xs → Has xs x
 has-from-times x [] h = absurd (omega arith)
 has-from-times x (y ∷ ys) h = elim (cases-eq y x) [
-    inl e ↦ (0, omega arith, λ d. e)
-  | inr e ↦ let r = has-from-times x ys (omega (arith, rw (ne-eqb y x e) at h)) in (suc (r .0), omega (arith, r .1), r .2) ]
+  | inl e ↦ (0, omega arith, λ d. e)
+  | inr e ↦ let r = has-from-times x ys (omega (arith, rw (ne-eqb y x e) at h)) in (suc (r .0), omega (arith, r .1), r .2)
+]
 
 -- a search tells whether a switch is named
 pub decides-named : (x : ℕ) (xs : List ℕ) (r : Bool) → Decides r (Has xs x) → Decides r (1 ≤ times x xs)
@@ -95,8 +96,9 @@ decides-each-once n xs =
 -- a switch that is not named, and all named
 pub each-once-false : (n : ℕ) (xs : List ℕ) (k : ℕ) → k < n → (1 ≤ times k xs → ⊥) → false ≡ each-once n xs
 each-once-false n xs k l un = elim (cases-bool (each-once n xs)) [
-    inl e ↦ absurd (un (omega (arith, decides-each-once n xs .0 e k l)))
-  | inr e ↦ sym e ]
+  | inl e ↦ absurd (un (omega (arith, decides-each-once n xs .0 e k l)))
+  | inr e ↦ sym e
+]
 
 pub each-once-true : (xs : List ℕ) → ((k : ℕ) → k < length xs → 1 ≤ times k xs) → true ≡ each-once (length xs) xs
 each-once-true xs h = sym (decides-each-once (length xs) xs .1 (once-from-some (length xs) xs refl h))
@@ -153,10 +155,11 @@ take-number-order n m = take-at (number-order n) (replicate m 255) n (length-num
 
 pub number-order-row : (n : ℕ) → n ≤ 24 → RowBytes n (number-order n ++ replicate (24 - n) 255)
 number-order-row n l =
-    let e = length-number-order n in
-    (simp (length-append, length-replicate) (omega arith),
-     rw take-number-order (number-order-is n),
-     λ k h m. getD-append-right (number-order n) (replicate (24 - n) 255) n k 0 e h ∙ getD-replicate (24 - n) (k - n) 255 0 (omega arith))
+    let e = length-number-order n in (
+      simp (length-append, length-replicate) (omega arith),
+      rw take-number-order (number-order-is n),
+      λ k h m. getD-append-right (number-order n) (replicate (24 - n) 255) n k 0 e h ∙ getD-replicate (24 - n) (k - n) 255 0 (omega arith),
+    )
 
 -- the switches of a row are below its size
 pub row-below : (n : ℕ) (bs : List ℕ) → RowBytes n bs → (k : ℕ) → k < n → getD bs k 0 < n

@@ -62,9 +62,14 @@ either-class x y = cond (is-trunk x || is-trunk y) Trunk Ordinary
 
 -- a link more: its cell's strands added up, trunk if either link is
 abbrev pub with-link : Grid → ℕ → ℕ → ℕ → Class → Grid
-with-link g a b s k = record { lefts = g .lefts; rights = g .rights; cells = record {
-  strands = set (g .cells .strands) (index a b) (cell-in g a b .strands + s);
-  classes = set (g .cells .classes) (index a b) (either-class (cell-in g a b .class) k) } }
+with-link g a b s k = record {
+  lefts = g .lefts;
+  rights = g .rights;
+  cells = record {
+    strands = set (g .cells .strands) (index a b) (cell-in g a b .strands + s);
+    classes = set (g .cells .classes) (index a b) (either-class (cell-in g a b .class) k);
+  };
+}
 
 abbrev pub in-link : {X : Type 0} → Result X LinkFault → Result X DesignFault
 in-link (Ok x) = Ok x

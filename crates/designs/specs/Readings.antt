@@ -35,8 +35,8 @@ abbrev pub rows-in : ℕ → ℕ → List ℕ → Result TwoRows RowFault
 rows-in n m bs =
     cond (is-row n (take 24 bs))
     (cond (is-row m (drop 24 bs))
-      (Ok (record { left = take n (take 24 bs); right = take m (drop 24 bs) }))
-      (Err RightRow))
+    (Ok (record { left = take n (take 24 bs); right = take m (drop 24 bs) }))
+    (Err RightRow))
     (Err LeftRow)
 
 -- the drawing of a design in 48 bytes

@@ -7,10 +7,10 @@ use crate::design::Design;
 use crate::drawing::Drawing;
 use crate::fault::Layer;
 use crate::fault::RowFault;
-use measures::amount::Amount;
-use measures::measure::Measure;
 use crate::fault::RowFaultDebug;
 use crate::fault::RowFaultPartialEq;
+use measures::amount::Amount;
+use measures::measure::Measure;
 
 // Why a part is no drawing of the design.
 #[derive(Clone, Copy, PartialEq, Eq, Debug)]
@@ -66,7 +66,11 @@ pub fn read_part(design: &Design, bytes: &[u8]) -> Result<Drawing, PartFault>
 }
 
 // Hands out the cheaper of two parts itself, the first on a tie.
-pub fn choose<'a, M: Measure>(design: &Design, first: &'a [u8], second: &'a [u8]) -> Result<&'a [u8], ChoiceFault>
+pub fn choose<'a, M: Measure>(
+    design: &Design,
+    first: &'a [u8],
+    second: &'a [u8],
+) -> Result<&'a [u8], ChoiceFault>
     ensures { λ r. ⌜ r ≡ choice (Amount·Amount .kind) (cost-of (Amount·Amount .kind) (M·Measure .priced) (grid-of (now (design .entry)))) (read-part (grid-of (now (design .entry))) (now (first .entry))) (read-part (grid-of (now (design .entry))) (now (second .entry))) (first .entry) (second .entry) ⌝ }
 {
     let one = match read_part(design, first) {
@@ -77,5 +81,6 @@ pub fn choose<'a, M: Measure>(design: &Design, first: &'a [u8], second: &'a [u8]
         Ok(drawing) => drawing,
         Err(cause) => return Err(ChoiceFault { cause, place: 1 }),
     };
-    if design.cost::<M>(&one).is_at_most(design.cost::<M>(&two)) { Ok(first) } else { Ok(second) }
+    let keeps_first = design.cost::<M>(&one).is_at_most(design.cost::<M>(&two));
+    if keeps_first { Ok(first) } else { Ok(second) }
 }

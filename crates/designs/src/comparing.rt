@@ -18,5 +18,9 @@ pub fn compare<M: Measure>(first: M::Amount, second: M::Amount) -> Comparison
     if !first.is_at_most(second) {
         return Comparison::More;
     }
-    if second.is_at_most(first) { Comparison::Alike } else { Comparison::Fewer }
+    if second.is_at_most(first) {
+        Comparison::Alike
+    } else {
+        Comparison::Fewer
+    }
 }

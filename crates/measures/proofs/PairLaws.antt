@@ -53,7 +53,8 @@ pairs-lawful = record {
   trans = λ x y z p q. under-trans (x .trunk) (x .rest) (y .trunk) (y .rest) (z .trunk) (z .rest) p q;
   antisym = λ x y p q. let e = under-anti (x .trunk) (x .rest) (y .trunk) (y .rest) p q in pair-same _ _ (e .0) (e .1);
   least = λ x. under-least (x .trunk) (x .rest);
-  mono = λ p q r h. under-mono (p .trunk) (p .rest) (q .trunk) (q .rest) (r .trunk) (r .rest) h }
+  mono = λ p q r h. under-mono (p .trunk) (p .rest) (q .trunk) (q .rest) (r .trunk) (r .rest) h;
+}
 
 or-comm : (x y : Bool) → (x || y) ≡ (y || x)
 or-comm true true = refl

@@ -47,7 +47,8 @@ sums-lawful = record {
   trans = λ x y z p q. leb-trans (x .value) (y .value) (z .value) p q;
   antisym = λ x y p q. sum-same _ _ (omega (arith, leb-true _ _ p, leb-true _ _ q));
   least = λ x. leb-least (x .value);
-  mono = λ p q r e. leb-mono (p .value) (q .value) (r .value) e }
+  mono = λ p q r e. leb-mono (p .value) (q .value) (r .value) e;
+}
 
 pub strands-exchanged : (a b : Link) → strand-price a b ≡ strand-price b a
 strands-exchanged a b = ap sum-held (mul-comm (a .strands) (b .strands))

@@ -15,7 +15,10 @@ impl Pair {
     pub(crate) fn of(trunk: u64, rest: u64) -> Pair
         ensures { λ r. ⌜ r ≡ pair-held trunk rest ⌝ }
     {
-        Pair { trunk, rest: rest_beside(trunk, rest) }
+        Pair {
+            trunk,
+            rest: rest_beside(trunk, rest),
+        }
     }
 }
 
@@ -27,7 +30,10 @@ pub impl Amount for Pair as PairAmount {
     }
 
     fn joined(self, other: Pair) -> Pair {
-        Pair::of(self.trunk.saturating_add(other.trunk), self.rest.saturating_add(other.rest))
+        Pair::of(
+            self.trunk.saturating_add(other.trunk),
+            self.rest.saturating_add(other.rest),
+        )
     }
 
     fn is_at_most(self, other: Pair) -> bool {

@@ -25,8 +25,9 @@ wrote-field old line at bs line2 at2 text end w e n =
     let l = length-push text end in
     record {
       bytes = (e ∙ sym (over-append line at text (end ∷ [])))
-        ∙ (ap (λ l. over l at (field text end)) (w .bytes) ∙ (ap (λ k. over (over old 0 bs) k (field text end)) i ∙ sym (over-append old 0 bs (field text end))));
-      next = omega (arith, w .next, length-append bs (field text end)) }
+          ∙ (ap (λ l. over l at (field text end)) (w .bytes) ∙ (ap (λ k. over (over old 0 bs) k (field text end)) i ∙ sym (over-append old 0 bs (field text end))));
+      next = omega (arith, w .next, length-append bs (field text end));
+    }
 
 pub wrote-all : (old line : List ℕ) (at : ℕ) (bs cs : List ℕ) → Wrote old line at bs → bs ≡ cs → at ≤ length old → (at ≡ length cs) × (line ≡ written-on old cs)
 wrote-all old line at bs cs w e h =

@@ -83,8 +83,8 @@ abbrev pub fresh-outcome : List ℕ → Result Command ScriptFault → Outcome
 fresh-outcome script (Err f) = refusal fresh f
 fresh-outcome script (Ok c) =
     cond (eqb (c .letter) 77)
-      (set-up-outcome (placed-set-up (c .place) (set-up (getD script (c .place + 1) 0) (getD script (c .place + 2) 0))))
-      (refusal fresh (WrongCondition (c .place)))
+    (set-up-outcome (placed-set-up (c .place) (set-up (getD script (c .place + 1) 0) (getD script (c .place + 2) 0))))
+    (refusal fresh (WrongCondition (c .place)))
 
 abbrev pub carried-outcome : {M A : Type 0} → (A → List ℕ) → (Stage A → Whole) → Carried M A → Outcome
 carried-outcome written whole c = record { refused = fault-in (c .told); bytes = answer-line written (c .told); session = whole (c .stage) }

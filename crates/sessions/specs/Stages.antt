@@ -69,7 +69,8 @@ link-by g p a b s (Err f) = refuse (filling g) (InDesign (InLink f) p)
 abbrev pub offer-by : {M A : Type 0} → Kind A → (Link → Link → A) → Grid → TwoRows → A → ℕ → Result TwoRows RowFault → Carried M A
 offer-by K priced g best best-cost p (Ok x) = record {
   told = Ok (Offered (is-better K best-cost (cost-of K priced g x)) (cost-of K priced g x));
-  stage = offered-stage K g best best-cost x (cost-of K priced g x) }
+  stage = offered-stage K g best best-cost x (cost-of K priced g x);
+}
 offer-by K priced g best best-cost p (Err f) = refuse (searching g best best-cost) (InSearch (InRow f) p)
 
 abbrev pub in-search : {X : Type 0} → Result X RowFault → Result X SearchFault

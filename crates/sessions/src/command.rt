@@ -55,7 +55,11 @@ pub fn read_command(script: &[u8], place: usize, room: usize) -> Result<Command,
     if next > script.len() {
         return Err(ScriptFault::CutOff { place });
     }
-    Ok(Command { letter, place, next })
+    Ok(Command {
+        letter,
+        place,
+        next,
+    })
 }
 
 // Where the next command starts after a fault of the reader.

@@ -52,7 +52,8 @@ pub impl From<Placed<SetupFault>> for ScriptFault as ScriptFromSetup {
     ghost converts = { λ f r. r ≡ InSetup (f .cause) (f .place) };
 
     fn from(fault: Placed<SetupFault>) -> ScriptFault {
-        ScriptFault::InSetup { cause: fault.cause, place: fault.place }
+        let Placed { cause, place } = fault;
+        ScriptFault::InSetup { cause, place }
     }
 }
 
@@ -60,7 +61,8 @@ pub impl From<Placed<DesignFault>> for ScriptFault as ScriptFromDesign {
     ghost converts = { λ f r. r ≡ InDesign (f .cause) (f .place) };
 
     fn from(fault: Placed<DesignFault>) -> ScriptFault {
-        ScriptFault::InDesign { cause: fault.cause, place: fault.place }
+        let Placed { cause, place } = fault;
+        ScriptFault::InDesign { cause, place }
     }
 }
 
@@ -68,7 +70,8 @@ pub impl From<Placed<SearchFault>> for ScriptFault as ScriptFromSearch {
     ghost converts = { λ f r. r ≡ InSearch (f .cause) (f .place) };
 
     fn from(fault: Placed<SearchFault>) -> ScriptFault {
-        ScriptFault::InSearch { cause: fault.cause, place: fault.place }
+        let Placed { cause, place } = fault;
+        ScriptFault::InSearch { cause, place }
     }
 }
 

@@ -81,7 +81,10 @@ pub fn write_refusal(line: &mut [u8], fault: ScriptFault) -> usize
 }
 
 // Writes what a call answers, unless the line is too short.
-pub fn write_answer<P: PrintingMeasure>(line: &mut [u8], told: &Result<Telling<P>, ScriptFault>) -> usize
+pub fn write_answer<P: PrintingMeasure>(
+    line: &mut [u8],
+    told: &Result<Telling<P>, ScriptFault>,
+) -> usize
     ensures wrote { λ r. ⌜ r ≡ length (if-room (length (now (line .entry))) (answer-line written (now (told .entry)))) ⌝ }
     ensures bytes { λ _. ⌜ now (line .exit) ≡ written-on (now (line .entry)) (if-room (length (now (line .entry))) (answer-line written (now (told .entry)))) ⌝ }
 {

@@ -28,7 +28,10 @@ fn no_cells() -> Cells
     ensures strands { λ r. ⌜ r .strands ≡ replicate 576 0 ⌝ }
     ensures classes { λ r. ⌜ r .classes ≡ replicate 576 Ordinary ⌝ }
 {
-    Cells { strands: NO_STRANDS, classes: ALL_ORDINARY }
+    Cells {
+        strands: NO_STRANDS,
+        classes: ALL_ORDINARY,
+    }
 }
 
 fn is_size(n: u8) -> bool
@@ -40,7 +43,11 @@ fn is_size(n: u8) -> bool
 fn either_class(x: Class, y: Class) -> Class
     ensures { λ r. ⌜ r ≡ either-class x y ⌝ }
 {
-    if x.is_trunk() | y.is_trunk() { Class::Trunk } else { Class::Ordinary }
+    if x.is_trunk() | y.is_trunk() {
+        Class::Trunk
+    } else {
+        Class::Ordinary
+    }
 }
 
 // A design of lawful sizes without links.
@@ -83,7 +90,11 @@ impl Design {
         if held > 255 - strands {
             return Err(LinkFault::CellFull);
         }
-        Ok(if class == 0 { Class::Ordinary } else { Class::Trunk })
+        Ok(if class == 0 {
+            Class::Ordinary
+        } else {
+            Class::Trunk
+        })
     }
 
     // Puts a link in that may be put in.
@@ -98,7 +109,13 @@ impl Design {
     }
 
     // Puts a link in, and answers its class: its cell gets the strands added, and is trunk if either link is.
-    pub fn link(&mut self, left: u8, right: u8, strands: u8, class: u8) -> Result<Class, DesignFault>
+    pub fn link(
+        &mut self,
+        left: u8,
+        right: u8,
+        strands: u8,
+        class: u8,
+    ) -> Result<Class, DesignFault>
         ensures result { λ r. ⌜ r ≡ in-link (link-check (grid-of (now (self .entry))) left right strands class) ⌝ }
         ensures state { λ _. ⌜ grid-of (now (self .exit)) ≡ after-link (grid-of (now (self .entry))) left right strands (link-check (grid-of (now (self .entry))) left right strands class) ⌝ }
         ensures refused { λ r. ⌜ IfRefused r (λ _. now (self .exit) ≡ now (self .entry)) ⌝ }

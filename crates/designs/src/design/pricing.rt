@@ -22,7 +22,16 @@ pub fn crossing_price<M: Measure>(x: Cell, y: Cell) -> M::Amount
     if x.strands == 0 || y.strands == 0 {
         return <M::Amount as Amount>::nothing();
     }
-    M::price(Link { strands: x.strands, class: x.class }, Link { strands: y.strands, class: y.class })
+    M::price(
+        Link {
+            strands: x.strands,
+            class: x.class,
+        },
+        Link {
+            strands: y.strands,
+            class: y.class,
+        },
+    )
 }
 
 // The switches behind the one at place i of a row.

@@ -22,11 +22,14 @@ impl Design {
     }
 
     // The cell of a left and a right switch.
-    pub(crate) fn cell(&self, left: u8, right: u8) -> Cell
+    pub fn cell(&self, left: u8, right: u8) -> Cell
         requires { ⌜ (left < 24) × (right < 24) ⌝ }
         ensures { λ r. ⌜ r ≡ cell-in (grid-of (now (self .entry))) left right ⌝ }
     {
         let at = left as usize * 24 + right as usize;
-        Cell { strands: self.cells.strands[at], class: self.cells.classes[at] }
+        Cell {
+            strands: self.cells.strands[at],
+            class: self.cells.classes[at],
+        }
     }
 }

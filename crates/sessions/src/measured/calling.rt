@@ -25,7 +25,10 @@ impl<M: Measure, R: Drop> MeasuredSession<M, R> {
         ensures rule { λ _. ⌜ now (self .exit) .rule ≡ now (self .entry) .rule ⌝ }
     {
         match read_command(script, place, room) {
-            Err(fault) => Reply { told: Err(fault), next: next_after(fault, place, script.len()) },
+            Err(fault) => Reply {
+                told: Err(fault),
+                next: next_after(fault, place, script.len()),
+            },
             Ok(command) => {
                 let start = command.place + 1;
                 let next = command.next;
@@ -49,6 +52,10 @@ impl<P: PrintingMeasure, R: Drop> MeasuredSession<P, R> {
     {
         let reply = self.call(script, place, line.len());
         let wrote = write_answer::<P>(line, &reply.told);
-        LineReply { told: reply.told, next: reply.next, wrote }
+        LineReply {
+            told: reply.told,
+            next: reply.next,
+            wrote,
+        }
     }
 }

@@ -33,7 +33,12 @@ fn read_offer(design: &Design, operands: &[u8]) -> Result<Drawing, SearchFault>
 
 impl<M: Measure, R: Drop> MeasuredSession<M, R> {
     // Carries out a command that has all its operands.
-    pub(super) fn carry_out(&mut self, letter: char, place: usize, operands: &[u8]) -> Result<Telling<M>, ScriptFault>
+    pub(super) fn carry_out(
+        &mut self,
+        letter: char,
+        place: usize,
+        operands: &[u8],
+    ) -> Result<Telling<M>, ScriptFault>
         requires { ⌜ width-of letter ≡ Some (length (now operands)) ⌝ }
         ensures told { λ r. ⌜ r ≡ carried (Amount·Amount .kind) (M·Measure .priced) (stage-of (now (self .entry) .condition)) letter place (now (operands .entry)) .told ⌝ }
         ensures stage { λ _. ⌜ stage-of (now (self .exit) .condition) ≡ carried {M = M} (Amount·Amount .kind) (M·Measure .priced) (stage-of (now (self .entry) .condition)) letter place (now (operands .entry)) .stage ⌝ }
@@ -42,13 +47,17 @@ impl<M: Measure, R: Drop> MeasuredSession<M, R> {
     {
         match (&mut self.condition, letter) {
             (Condition::Set | Condition::Searching(_), 'D') => {
-                let design = at_place(Design::empty(operands[0], operands[1]), place)?;
+                let (left, right) = (operands[0], operands[1]);
+                let design = at_place(Design::empty(left, right), place)?;
                 self.condition = Condition::Filling(design);
-                Ok(Telling::Sized { left: operands[0], right: operands[1] })
+                Ok(Telling::Sized { left, right })
             }
             (Condition::Filling(design), 'L') => {
-                let class = at_place(design.link(operands[0], operands[1], operands[2], operands[3]), place)?;
-                Ok(Telling::Linked { left: operands[0], right: operands[1], link: Link { strands: operands[2], class } })
+                let (left, right, strands) = (operands[0], operands[1], operands[2]);
+                let linked = design.link(left, right, strands, operands[3]);
+                let class = at_place(linked, place)?;
+                let link = Link { strands, class };
+                Ok(Telling::Linked { left, right, link })
             }
             (Condition::Filling(design), 'C') => {
                 let closed = *design;

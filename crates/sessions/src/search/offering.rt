@@ -15,7 +15,11 @@ impl<M: Measure> Search<M> {
     {
         let incumbent = Drawing::in_number_order(&design);
         let cost = design.cost::<M>(&incumbent);
-        Search { design, incumbent, cost }
+        Search {
+            design,
+            incumbent,
+            cost,
+        }
     }
 
     // Takes an offered drawing if it costs less than the best; answers whether it does.

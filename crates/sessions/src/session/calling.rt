@@ -49,11 +49,17 @@ fn set_up(measure: u8, rule: u8) -> Result<Session, SetupFault>
     match measure {
         ByStrands::NUMBER => {
             let rule = rule_numbered(rule)?;
-            Ok(Session::ByStrands(MeasuredSession { rule, condition: Condition::Set }))
+            Ok(Session::ByStrands(MeasuredSession {
+                rule,
+                condition: Condition::Set,
+            }))
         }
         ByTrunks::NUMBER => {
             let rule = rule_numbered(rule)?;
-            Ok(Session::ByTrunks(MeasuredSession { rule, condition: Condition::Set }))
+            Ok(Session::ByTrunks(MeasuredSession {
+                rule,
+                condition: Condition::Set,
+            }))
         }
         _ => Err(SetupFault::UnknownMeasure),
     }
@@ -73,7 +79,11 @@ fn refuse(line: &mut [u8], fault: ScriptFault, next: usize) -> Answer
     ensures bytes { λ _. ⌜ now (line .exit) ≡ written-on (now (line .entry)) (if-room (length (now (line .entry))) (refusal-line fault)) ⌝ }
 {
     let wrote = write_refusal(line, fault);
-    Answer { refused: Some(fault), next, wrote }
+    Answer {
+        refused: Some(fault),
+        next,
+        wrote,
+    }
 }
 
 // Why a call was refused, if it was.
@@ -87,7 +97,12 @@ fn fault_of<M: Measure>(told: Result<Telling<M>, ScriptFault>) -> Option<ScriptF
 }
 
 // A call of a session that has a measure.
-fn measured_call<P: PrintingMeasure>(session: &mut MeasuredSession<P, Rule>, script: &[u8], place: usize, line: &mut [u8]) -> Answer
+fn measured_call<P: PrintingMeasure>(
+    session: &mut MeasuredSession<P, Rule>,
+    script: &[u8],
+    place: usize,
+    line: &mut [u8],
+) -> Answer
     ensures refused { λ r. ⌜ r .refused ≡ fault-in (called {M = P} (Amount·Amount .kind) (P·Measure .priced) (stage-of (now (session .entry) .condition)) (now (script .entry)) place (length (now (line .entry))) .told) ⌝ }
     ensures next { λ r. ⌜ r .next ≡ next-byte (now (script .entry)) place (read-command (now (script .entry)) place (length (now (line .entry)))) ⌝ }
     ensures wrote { λ r. ⌜ r .wrote ≡ length (if-room (length (now (line .entry))) (answer-line written (called {M = P} (Amount·Amount .kind) (P·Measure .priced) (stage-of (now (session .entry) .condition)) (now (script .entry)) place (length (now (line .entry))) .told))) ⌝ }
@@ -97,7 +112,11 @@ fn measured_call<P: PrintingMeasure>(session: &mut MeasuredSession<P, Rule>, scr
     ensures rule { λ _. ⌜ now (session .exit) .rule ≡ now (session .entry) .rule ⌝ }
 {
     let reply = session.call_on_line(script, place, line);
-    Answer { refused: fault_of(reply.told), next: reply.next, wrote: reply.wrote }
+    Answer {
+        refused: fault_of(reply.told),
+        next: reply.next,
+        wrote: reply.wrote,
+    }
 }
 
 impl Session {
@@ -126,11 +145,19 @@ impl Session {
             (Session::Fresh, 'M') => match set_up_at(script[place + 1], script[place + 2], place) {
                 Ok(session) => {
                     *self = session;
-                    Answer { refused: None, next: command.next, wrote: 0 }
+                    Answer {
+                        refused: None,
+                        next: command.next,
+                        wrote: 0,
+                    }
                 }
                 Err(fault) => refuse(line, fault, command.next),
             },
-            (Session::Fresh, _) => refuse(line, ScriptFault::WrongCondition { place }, command.next),
+            (Session::Fresh, _) => refuse(
+                line,
+                ScriptFault::WrongCondition { place },
+                command.next,
+            ),
             (Session::ByStrands(session), _) => measured_call(session, script, place, line),
             (Session::ByTrunks(session), _) => measured_call(session, script, place, line),
         }

@@ -27,5 +27,6 @@ pub returns : need.returns
 returns t c = record {
   next = omega (arith, more-length (c .args .n) (omega arith) (omega arith), c .put-digits-here .ensures .next);
   bytes = let e = more-over (c .args .line .now) (c .args .at) (c .args .n) (omega arith) (omega arith) in
-          let n = c .put-digits-here .ensures .next in
-          let b = c .put-digits-here .ensures .bytes in cc }
+      let n = c .put-digits-here .ensures .next in
+      let b = c .put-digits-here .ensures .bytes in cc;
+}

@@ -21,15 +21,15 @@ loop-i-again g c =
     let priced = g .M·Measure .priced in
     let cells = cell-in (grid-of (c .args .self .now)) in
     two-turn K (g .Amount·Amount·met .lawful) (λ a k. crossing K priced (cells a (c .args .v)) (cells k (c .args .u)))
-        (c .args .left .now) (c .loop-i .i) (c .loop-i .sum) (c .joined-sum .result) (c .with-later-left .result) (c .loop-i-test .taken) (c .joined-sum .ensures)
-        (c .with-later-left .ensures
-          ∙ (ap (λ x. over-each K (λ k. crossing K priced x (cells k (c .args .u))) (c .behind .result .now)) (c .cell-cell .ensures)
-          ∙ ap (over-each K (λ k. crossing K priced (cells (getD (c .args .left .now) (c .loop-i .i) 0) (c .args .v)) (cells k (c .args .u)))) (c .behind .ensures)))
-        (c .loop-i .inv)
+    (c .args .left .now) (c .loop-i .i) (c .loop-i .sum) (c .joined-sum .result) (c .with-later-left .result) (c .loop-i-test .taken) (c .joined-sum .ensures)
+    (c .with-later-left .ensures
+    ∙ (ap (λ x. over-each K (λ k. crossing K priced x (cells k (c .args .u))) (c .behind .result .now)) (c .cell-cell .ensures)
+    ∙ ap (over-each K (λ k. crossing K priced (cells (getD (c .args .left .now) (c .loop-i .i) 0) (c .args .v)) (cells k (c .args .u)))) (c .behind .ensures)))
+    (c .loop-i .inv)
 
 pub returns : need.returns
 returns g c =
     let K = g .Amount·Amount .kind in
     let cells = cell-in (grid-of (c .args .self .now)) in
     two-end K (g .Amount·Amount·met .lawful) (λ a k. crossing K (g .M·Measure .priced) (cells a (c .args .v)) (cells k (c .args .u)))
-        (c .args .left .now) (c .loop-i .i) (c .loop-i .sum) (c .loop-i-test .left) (c .loop-i .inv)
+    (c .args .left .now) (c .loop-i .i) (c .loop-i .sum) (c .loop-i-test .left) (c .loop-i .inv)

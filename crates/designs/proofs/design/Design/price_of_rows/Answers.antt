@@ -16,18 +16,18 @@ pub loop-i-holds : need.loop-i-holds
 loop-i-holds g c =
     let K = g .Amount·Amount .kind in
     start K (g .Amount·Amount·met .lawful) (over-two K (between K (g .M·Measure .priced) (cell-in (grid-of (c .args .self .now))) (c .args .left .now)))
-        (c .args .right .now) (c .nothing-sum .result) (c .nothing-sum .ensures)
+    (c .args .right .now) (c .nothing-sum .result) (c .nothing-sum .ensures)
 
 pub loop-i-again : need.loop-i-again
 loop-i-again g c =
     let K = g .Amount·Amount .kind in
     two-turn K (g .Amount·Amount·met .lawful) (between K (g .M·Measure .priced) (cell-in (grid-of (c .args .self .now))) (c .args .left .now))
-        (c .args .right .now) (c .loop-i .i) (c .loop-i .sum) (c .joined-sum .result) (c .with-later-right .result) (c .loop-i-test .taken) (c .joined-sum .ensures)
-        (c .with-later-right .ensures ∙ ap (over-each K (between K (g .M·Measure .priced) (cell-in (grid-of (c .args .self .now))) (c .args .left .now) (getD (c .args .right .now) (c .loop-i .i) 0))) (c .behind .ensures))
-        (c .loop-i .inv)
+    (c .args .right .now) (c .loop-i .i) (c .loop-i .sum) (c .joined-sum .result) (c .with-later-right .result) (c .loop-i-test .taken) (c .joined-sum .ensures)
+    (c .with-later-right .ensures ∙ ap (over-each K (between K (g .M·Measure .priced) (cell-in (grid-of (c .args .self .now))) (c .args .left .now) (getD (c .args .right .now) (c .loop-i .i) 0))) (c .behind .ensures))
+    (c .loop-i .inv)
 
 pub returns : need.returns
 returns g c =
     let K = g .Amount·Amount .kind in
     two-end K (g .Amount·Amount·met .lawful) (between K (g .M·Measure .priced) (cell-in (grid-of (c .args .self .now))) (c .args .left .now))
-        (c .args .right .now) (c .loop-i .i) (c .loop-i .sum) (c .loop-i-test .left) (c .loop-i .inv)
+    (c .args .right .now) (c .loop-i .i) (c .loop-i .sum) (c .loop-i-test .left) (c .loop-i .inv)

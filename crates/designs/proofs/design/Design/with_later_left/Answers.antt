@@ -21,11 +21,11 @@ loop-c-again g c =
     let priced = g .M·Measure .priced in
     let cell = c .args .cell in
     each-turn K (g .Amount·Amount·met .lawful) (λ k. crossing K priced cell (cell-in (grid-of (c .args .self .now)) k (c .args .u)))
-        (c .args .later .now) (c .loop-c .c-index) (c .loop-c .sum) (c .joined-sum .result) (c .crossing-price .result) (c .loop-c-test .taken) (c .joined-sum .ensures)
-        (c .crossing-price .ensures ∙ ap (crossing K priced cell) (c .cell .ensures)) (c .loop-c .inv)
+    (c .args .later .now) (c .loop-c .c-index) (c .loop-c .sum) (c .joined-sum .result) (c .crossing-price .result) (c .loop-c-test .taken) (c .joined-sum .ensures)
+    (c .crossing-price .ensures ∙ ap (crossing K priced cell) (c .cell .ensures)) (c .loop-c .inv)
 
 pub returns : need.returns
 returns g c =
     let K = g .Amount·Amount .kind in
     each-end K (g .Amount·Amount·met .lawful) (λ k. crossing K (g .M·Measure .priced) (c .args .cell) (cell-in (grid-of (c .args .self .now)) k (c .args .u)))
-        (c .args .later .now) (c .loop-c .c-index) (c .loop-c .sum) (c .loop-c-test .left) (c .loop-c .inv)
+    (c .args .later .now) (c .loop-c .c-index) (c .loop-c .sum) (c .loop-c-test .left) (c .loop-c .inv)

@@ -12,17 +12,17 @@ pub loop-v-holds : need.loop-v-holds
 loop-v-holds g c =
     let K = g .Amount·Amount .kind in
     start K (g .Amount·Amount·met .lawful) (over-each K (between K (g .M·Measure .priced) (cell-in (grid-of (c .args .self .now))) (c .args .left .now) (c .args .u)))
-        (c .args .later .now) (c .nothing-sum .result) (c .nothing-sum .ensures)
+    (c .args .later .now) (c .nothing-sum .result) (c .nothing-sum .ensures)
 
 pub loop-v-again : need.loop-v-again
 loop-v-again g c =
     let K = g .Amount·Amount .kind in
     each-turn K (g .Amount·Amount·met .lawful) (between K (g .M·Measure .priced) (cell-in (grid-of (c .args .self .now))) (c .args .left .now) (c .args .u))
-        (c .args .later .now) (c .loop-v .v-index) (c .loop-v .sum) (c .joined-sum .result) (c .price-between .result) (c .loop-v-test .taken) (c .joined-sum .ensures)
-        (c .price-between .ensures) (c .loop-v .inv)
+    (c .args .later .now) (c .loop-v .v-index) (c .loop-v .sum) (c .joined-sum .result) (c .price-between .result) (c .loop-v-test .taken) (c .joined-sum .ensures)
+    (c .price-between .ensures) (c .loop-v .inv)
 
 pub returns : need.returns
 returns g c =
     let K = g .Amount·Amount .kind in
     each-end K (g .Amount·Amount·met .lawful) (between K (g .M·Measure .priced) (cell-in (grid-of (c .args .self .now))) (c .args .left .now) (c .args .u))
-        (c .args .later .now) (c .loop-v .v-index) (c .loop-v .sum) (c .loop-v-test .left) (c .loop-v .inv)
+    (c .args .later .now) (c .loop-v .v-index) (c .loop-v .sum) (c .loop-v-test .left) (c .loop-v .inv)
