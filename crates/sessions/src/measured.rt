@@ -16,6 +16,6 @@ pub enum Condition<M: Measure> {
 // A session with a measure and a rule, as an accepted M leaves it and as it goes on from there.
 #[derive(Drop)]
 pub struct MeasuredSession<M: Measure, R: Drop> {
-    pub rule: R,
-    pub condition: Condition<M>,
+    rule: R,
+    condition: Condition<M>,
 }

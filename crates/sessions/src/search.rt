@@ -7,7 +7,7 @@ pub mod offering;
 // A closed design, the best drawing of it so far, and that drawing's cost.
 #[derive(Drop)]
 pub struct Search<M: Measure> {
-    pub design: Design,
-    pub incumbent: Drawing,
-    pub cost: M::Amount,
+    pub(crate) design: Design,
+    pub(crate) incumbent: Drawing,
+    pub(crate) cost: M::Amount,
 }

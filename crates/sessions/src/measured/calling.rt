@@ -4,8 +4,9 @@ ghost use lib.ListN.{length};
 ghost use Rattle.std.specs.Vec.{refused as IfRefused};
 ghost use Rattle.sessions.specs.Calls.{called};
 ghost use Rattle.sessions.specs.Scripts.{read-command, next-byte};
-ghost use Rattle.sessions.specs.Stages.{stage-of};
+ghost use Rattle.sessions.specs.Stages.{stage-of, set};
 ghost use Rattle.sessions.specs.Texts.{answer-line, if-room, written-on};
+use super::Condition;
 use super::MeasuredSession;
 use crate::command::next_after;
 use crate::command::read_command;
@@ -16,6 +17,17 @@ use measures::measure::Measure;
 use measures::measure::PrintingMeasure;
 
 impl<M: Measure, R: Drop> MeasuredSession<M, R> {
+    // A session with this rule, as an accepted M leaves it.
+    pub fn new(rule: R) -> MeasuredSession<M, R>
+        ensures rule { λ r. ⌜ r .rule ≡ rule ⌝ }
+        ensures stage { λ r. ⌜ stage-of (r .condition) ≡ set ⌝ }
+    {
+        MeasuredSession {
+            rule,
+            condition: Condition::Set,
+        }
+    }
+
     // Carries out the command at a byte of the script, for a line with this much room.
     pub fn call(&mut self, script: &[u8], place: usize, room: usize) -> Reply<M>
         ensures told { λ r. ⌜ r .told ≡ called (Amount·Amount .kind) (M·Measure .priced) (stage-of (now (self .entry) .condition)) (now (script .entry)) place room .told ⌝ }

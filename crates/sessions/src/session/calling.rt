@@ -17,7 +17,6 @@ use crate::fault::ScriptFault;
 use crate::fault::ScriptFromSetup;
 use crate::fault::SetupFault;
 use crate::fault::at_place;
-use crate::measured::Condition;
 use crate::measured::MeasuredSession;
 use crate::rule::Rule;
 use crate::telling::Telling;
@@ -49,17 +48,11 @@ fn set_up(measure: u8, rule: u8) -> Result<Session, SetupFault>
     match measure {
         ByStrands::NUMBER => {
             let rule = rule_numbered(rule)?;
-            Ok(Session::ByStrands(MeasuredSession {
-                rule,
-                condition: Condition::Set,
-            }))
+            Ok(Session::ByStrands(MeasuredSession::new(rule)))
         }
         ByTrunks::NUMBER => {
             let rule = rule_numbered(rule)?;
-            Ok(Session::ByTrunks(MeasuredSession {
-                rule,
-                condition: Condition::Set,
-            }))
+            Ok(Session::ByTrunks(MeasuredSession::new(rule)))
         }
         _ => Err(SetupFault::UnknownMeasure),
     }
