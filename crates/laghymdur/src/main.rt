@@ -1,5 +1,5 @@
-use sessions::command::LINE;
-use sessions::command::LONGEST;
+use scripts::command::LINE;
+use scripts::command::LONGEST;
 use sessions::session::Session;
 use std::io;
 use std::io::Read;

@@ -5,10 +5,10 @@ use Rattle.std.specs.declared.result.Result.{Result}
 use Rattle.std.specs.declared.result.Result.the-variants.{Ok, Err}
 use Rattle.measures.specs.Amounts.{Kind}
 use Rattle.measures.specs.declared.link.Link.{Link}
-use Rattle.sessions.specs.Scripts.{read-command, operands}
+use Rattle.scripts.specs.Scripts.{read-command, operands}
 use Rattle.sessions.specs.Stages.{Stage, Carried, refuse, carried}
-use Rattle.sessions.specs.declared.command.Command.{Command}
-use Rattle.sessions.specs.declared.fault.ScriptFault.{ScriptFault}
+use Rattle.scripts.specs.declared.command.Command.{Command}
+use Rattle.scripts.specs.declared.fault.ScriptFault.{ScriptFault}
 
 abbrev pub carried-command : {M A : Type 0} → Kind A → (Link → Link → A) → Stage A → List ℕ → Result Command ScriptFault → Carried M A
 carried-command K priced s script (Ok c) = carried K priced s (c .letter) (c .place) (operands script c)

@@ -1,5 +1,3 @@
-pub mod Faults
-pub mod Scripts
 pub mod Stages
 pub mod Calls
 pub mod Texts

@@ -18,14 +18,14 @@ use Rattle.measures.specs.declared.pair.Pair.{Pair}
 use Rattle.measures.specs.declared.strands.ByStrands.{ByStrands as StrandMeasure}
 use Rattle.measures.specs.declared.trunks.ByTrunks.{ByTrunks as TrunkMeasure}
 use Rattle.sessions.specs.Calls.{called}
-use Rattle.sessions.specs.Scripts.{read-command}
+use Rattle.scripts.specs.Scripts.{read-command}
 use Rattle.sessions.specs.Stages.{Stage, set, stage-of, Carried}
 use Rattle.sessions.specs.Texts.{refusal-line, answer-line}
-use Rattle.sessions.specs.declared.command.Command.{Command}
-use Rattle.sessions.specs.declared.fault.SetupFault.{SetupFault}
-use Rattle.sessions.specs.declared.fault.SetupFault.the-variants.{UnknownMeasure, UnknownRule}
-use Rattle.sessions.specs.declared.fault.ScriptFault.{ScriptFault}
-use Rattle.sessions.specs.declared.fault.ScriptFault.the-variants.{WrongCondition, InSetup}
+use Rattle.scripts.specs.declared.command.Command.{Command}
+use Rattle.scripts.specs.declared.fault.SetupFault.{SetupFault}
+use Rattle.scripts.specs.declared.fault.SetupFault.the-variants.{UnknownMeasure, UnknownRule}
+use Rattle.scripts.specs.declared.fault.ScriptFault.{ScriptFault}
+use Rattle.scripts.specs.declared.fault.ScriptFault.the-variants.{WrongCondition, InSetup}
 use Rattle.sessions.specs.declared.rule.Rule.{Rule}
 use Rattle.sessions.specs.declared.rule.Rule.the-variants.{Settled, Lesser}
 use Rattle.sessions.specs.declared.session.Session.{Session}

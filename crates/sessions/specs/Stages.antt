@@ -15,10 +15,10 @@ use Rattle.designs.specs.declared.fault.DesignFault.{DesignFault}
 use Rattle.designs.specs.declared.fault.DesignFault.the-variants.{InLink}
 use Rattle.designs.specs.declared.fault.LinkFault.{LinkFault}
 use Rattle.designs.specs.declared.fault.RowFault.{RowFault}
-use Rattle.sessions.specs.declared.fault.ScriptFault.{ScriptFault}
-use Rattle.sessions.specs.declared.fault.ScriptFault.the-variants.{WrongCondition, InDesign, InSearch}
-use Rattle.sessions.specs.declared.fault.SearchFault.{SearchFault}
-use Rattle.sessions.specs.declared.fault.SearchFault.the-variants.{InRow}
+use Rattle.scripts.specs.declared.fault.ScriptFault.{ScriptFault}
+use Rattle.scripts.specs.declared.fault.ScriptFault.the-variants.{WrongCondition, InDesign, InSearch}
+use Rattle.scripts.specs.declared.fault.SearchFault.{SearchFault}
+use Rattle.scripts.specs.declared.fault.SearchFault.the-variants.{InRow}
 use Rattle.sessions.specs.declared.measured.Condition.{Condition}
 use Rattle.sessions.specs.declared.measured.Condition.the-variants.{Set, Filling, Searching}
 use Rattle.sessions.specs.declared.search.Search.{Search}

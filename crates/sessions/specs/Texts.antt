@@ -10,8 +10,8 @@ use Rattle.std.specs.declared.result.Result.{Result}
 use Rattle.std.specs.declared.result.Result.the-variants.{Ok, Err}
 use Rattle.designs.specs.declared.fault.Layer.{Layer}
 use Rattle.designs.specs.declared.fault.Layer.the-variants.{Script, Setup, Design, Search}
-use Rattle.sessions.specs.Faults.{number-of, layer-of, place-of}
-use Rattle.sessions.specs.declared.fault.ScriptFault.{ScriptFault}
+use Rattle.scripts.specs.Faults.{number-of, layer-of, place-of}
+use Rattle.scripts.specs.declared.fault.ScriptFault.{ScriptFault}
 use Rattle.sessions.specs.declared.telling.Telling.{Telling}
 use Rattle.sessions.specs.declared.telling.Telling.the-variants.{Sized, Linked, Closed, Offered}
 

@@ -1,5 +1,3 @@
-pub mod command;
-pub mod fault;
 pub mod measured;
 pub mod rule;
 pub mod search;

@@ -1,6 +1,6 @@
-use crate::fault::ScriptFault;
 use measures::link::Link;
 use measures::measure::Measure;
+use scripts::fault::ScriptFault;
 
 // What an accepted command told.
 #[derive(Drop)]

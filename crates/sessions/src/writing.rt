@@ -4,13 +4,13 @@ ghost use Prim.Native.Nat.{ℕ, _+_, _≤_};
 ghost use lib.ListN.{length};
 ghost use Rattle.measures.specs.Lines.{over};
 ghost use Rattle.sessions.specs.Texts.{layer-name, offer-word, field, refusal-line, told-line, answer-line, if-room, written-on};
-use crate::command::LINE;
-use crate::fault::ScriptFault;
 use crate::telling::Telling;
 use designs::fault::Layer;
 use measures::line::put_field;
 use measures::line::put_number;
 use measures::measure::PrintingMeasure;
+use scripts::command::LINE;
+use scripts::fault::ScriptFault;
 
 fn layer_name(layer: Layer) -> &'static [u8]
     ensures name { λ r. ⌜ now r ≡ layer-name layer ⌝ }

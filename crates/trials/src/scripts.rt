@@ -1,4 +1,4 @@
-use sessions::fault::ScriptFault;
+use scripts::fault::ScriptFault;
 use sessions::session::Session;
 use std::alloc::AllocError;
 use std::alloc::Global;

@@ -3,18 +3,18 @@ ghost use Prim.Native.Nat.{ℕ, _≤_, _<_};
 ghost use lib.ListN.{length};
 ghost use Rattle.std.specs.Vec.{refused as IfRefused};
 ghost use Rattle.sessions.specs.Calls.{called};
-ghost use Rattle.sessions.specs.Scripts.{read-command, next-byte};
+ghost use Rattle.scripts.specs.Scripts.{read-command, next-byte};
 ghost use Rattle.sessions.specs.Stages.{stage-of, set};
 ghost use Rattle.sessions.specs.Texts.{answer-line, if-room, written-on};
 use super::Condition;
 use super::MeasuredSession;
-use crate::command::next_after;
-use crate::command::read_command;
 use crate::telling::LineReply;
 use crate::telling::Reply;
 use crate::writing::write_answer;
 use measures::measure::Measure;
 use measures::measure::PrintingMeasure;
+use scripts::command::next_after;
+use scripts::command::read_command;
 
 impl<M: Measure, R: Drop> MeasuredSession<M, R> {
     // A session with this rule, as an accepted M leaves it.

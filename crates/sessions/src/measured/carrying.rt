@@ -5,22 +5,22 @@ ghost use Rattle.std.specs.declared.option.Option.the-variants.{Some};
 ghost use Rattle.std.specs.Vec.{refused as IfRefused};
 ghost use Rattle.designs.specs.Grids.{grid-of, on-ok};
 ghost use Rattle.designs.specs.Readings.{rows-of, read-rows};
-ghost use Rattle.sessions.specs.Scripts.{width-of};
+ghost use Rattle.scripts.specs.Scripts.{width-of};
 ghost use Rattle.sessions.specs.Stages.{stage-of, carried, in-search};
 use super::Condition;
 use super::MeasuredSession;
-use crate::fault::ScriptFault;
-use crate::fault::ScriptFromDesign;
-use crate::fault::ScriptFromSearch;
-use crate::fault::SearchFault;
-use crate::fault::SearchFromRow;
-use crate::fault::at_place;
 use crate::search::Search;
 use crate::telling::Telling;
 use designs::design::Design;
 use designs::drawing::Drawing;
 use measures::link::Link;
 use measures::measure::Measure;
+use scripts::fault::ScriptFault;
+use scripts::fault::ScriptFromDesign;
+use scripts::fault::ScriptFromSearch;
+use scripts::fault::SearchFault;
+use scripts::fault::SearchFromRow;
+use scripts::fault::at_place;
 
 // Reads an offered drawing.
 fn read_offer(design: &Design, operands: &[u8]) -> Result<Drawing, SearchFault>

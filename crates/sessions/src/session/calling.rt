@@ -4,19 +4,13 @@ ghost use lib.ListN.{length, getD};
 ghost use Rattle.std.specs.Options.{Cases as BySome};
 ghost use Rattle.designs.specs.Grids.{on-ok};
 ghost use Rattle.sessions.specs.Calls.{called};
-ghost use Rattle.sessions.specs.Scripts.{read-command, next-byte};
+ghost use Rattle.scripts.specs.Scripts.{read-command, next-byte};
 ghost use Rattle.sessions.specs.Sessions.{whole-of, rule-numbered, set-up, placed-set-up, outcome, fault-in};
 ghost use Rattle.sessions.specs.Stages.{stage-of};
 ghost use Rattle.sessions.specs.Texts.{answer-line, if-room, refusal-line, written-on};
 ghost use Rattle.std.specs.declared.option.Option.the-variants.{Some};
 use super::Answer;
 use super::Session;
-use crate::command::next_after;
-use crate::command::read_command;
-use crate::fault::ScriptFault;
-use crate::fault::ScriptFromSetup;
-use crate::fault::SetupFault;
-use crate::fault::at_place;
 use crate::measured::MeasuredSession;
 use crate::rule::Rule;
 use crate::telling::Telling;
@@ -29,6 +23,12 @@ use measures::strands::StrandPrinting;
 use measures::trunks::ByTrunks;
 use measures::trunks::TrunkMeasure;
 use measures::trunks::TrunkPrinting;
+use scripts::command::next_after;
+use scripts::command::read_command;
+use scripts::fault::ScriptFault;
+use scripts::fault::ScriptFromSetup;
+use scripts::fault::SetupFault;
+use scripts::fault::at_place;
 
 // The rule with this number.
 fn rule_numbered(number: u8) -> Result<Rule, SetupFault>

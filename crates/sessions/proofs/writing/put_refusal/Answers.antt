@@ -5,9 +5,9 @@ use native.Mathlib.Omega.{arith}
 use lib.Chars.{codes}
 use lib.ListN.{length}
 use Rattle.std.specs.Written.{decimal}
-use Rattle.sessions.specs.Faults.{number-of, layer-of, place-of}
+use Rattle.scripts.specs.Faults.{number-of, layer-of, place-of}
 use Rattle.sessions.specs.Texts.{field, layer-name, refusal-line}
-use Rattle.sessions.specs.declared.fault.ScriptFault.{ScriptFault}
+use Rattle.scripts.specs.declared.fault.ScriptFault.{ScriptFault}
 use Rattle.sessions.proofs.Written.{wrote-none, wrote-field, wrote-all, four}
 use Rattle.sessions.proofs.writing.put_refusal.Needs as need
 

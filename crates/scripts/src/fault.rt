@@ -1,8 +1,8 @@
 ghost use mathlib.Core.Path.{_≡_};
 ghost use Rattle.std.specs.declared.result.Result.the-variants.{Ok, Err};
-ghost use Rattle.sessions.specs.Faults.{setup-number, search-number, number-of, layer-of, place-of, at-place};
-ghost use Rattle.sessions.specs.declared.fault.SearchFault.the-variants.{InRow};
-ghost use Rattle.sessions.specs.declared.fault.ScriptFault.the-variants.{InSetup, InDesign, InSearch};
+ghost use Rattle.scripts.specs.Faults.{setup-number, search-number, number-of, layer-of, place-of, at-place};
+ghost use Rattle.scripts.specs.declared.fault.SearchFault.the-variants.{InRow};
+ghost use Rattle.scripts.specs.declared.fault.ScriptFault.the-variants.{InSetup, InDesign, InSearch};
 use designs::fault::DesignFault;
 use designs::fault::Layer;
 use designs::fault::RowFault;

@@ -2,7 +2,7 @@ ghost use mathlib.Core.Path.{_≡_};
 ghost use Prim.Native.Nat.{ℕ, _<_, _≤_};
 ghost use lib.ListN.{length};
 ghost use Rattle.std.specs.Vec.{made as IfMade};
-ghost use Rattle.sessions.specs.Scripts.{width-of, read-command, next-after};
+ghost use Rattle.scripts.specs.Scripts.{width-of, read-command, next-after};
 use crate::fault::ScriptFault;
 
 // The shortest line that a call takes.

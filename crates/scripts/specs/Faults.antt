@@ -7,13 +7,13 @@ use Rattle.designs.specs.declared.fault.DesignFault.{DesignFault}
 use Rattle.designs.specs.declared.fault.RowFault.{RowFault}
 use Rattle.designs.specs.declared.fault.Layer.{Layer}
 use Rattle.designs.specs.declared.fault.Layer.the-variants.{Script, Setup, Design, Search}
-use Rattle.sessions.specs.declared.fault.Placed.{Placed}
-use Rattle.sessions.specs.declared.fault.SetupFault.{SetupFault}
-use Rattle.sessions.specs.declared.fault.SetupFault.the-variants.{UnknownMeasure, UnknownRule}
-use Rattle.sessions.specs.declared.fault.SearchFault.{SearchFault}
-use Rattle.sessions.specs.declared.fault.SearchFault.the-variants.{InRow}
-use Rattle.sessions.specs.declared.fault.ScriptFault.{ScriptFault}
-use Rattle.sessions.specs.declared.fault.ScriptFault.the-variants.{ShortLine, LongScript, UnknownLetter, CutOff, WrongCondition, InSetup, InDesign, InSearch}
+use Rattle.scripts.specs.declared.fault.Placed.{Placed}
+use Rattle.scripts.specs.declared.fault.SetupFault.{SetupFault}
+use Rattle.scripts.specs.declared.fault.SetupFault.the-variants.{UnknownMeasure, UnknownRule}
+use Rattle.scripts.specs.declared.fault.SearchFault.{SearchFault}
+use Rattle.scripts.specs.declared.fault.SearchFault.the-variants.{InRow}
+use Rattle.scripts.specs.declared.fault.ScriptFault.{ScriptFault}
+use Rattle.scripts.specs.declared.fault.ScriptFault.the-variants.{ShortLine, LongScript, UnknownLetter, CutOff, WrongCondition, InSetup, InDesign, InSearch}
 
 abbrev pub setup-number : SetupFault → ℕ
 setup-number UnknownMeasure = 6

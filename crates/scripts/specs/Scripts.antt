@@ -8,9 +8,9 @@ use Rattle.std.specs.declared.option.Option.{Option}
 use Rattle.std.specs.declared.option.Option.the-variants.{Some, None}
 use Rattle.std.specs.declared.result.Result.{Result}
 use Rattle.std.specs.declared.result.Result.the-variants.{Ok, Err}
-use Rattle.sessions.specs.declared.command.Command.{Command}
-use Rattle.sessions.specs.declared.fault.ScriptFault.{ScriptFault}
-use Rattle.sessions.specs.declared.fault.ScriptFault.the-variants.{ShortLine, LongScript, UnknownLetter, CutOff, WrongCondition, InSetup, InDesign, InSearch}
+use Rattle.scripts.specs.declared.command.Command.{Command}
+use Rattle.scripts.specs.declared.fault.ScriptFault.{ScriptFault}
+use Rattle.scripts.specs.declared.fault.ScriptFault.the-variants.{ShortLine, LongScript, UnknownLetter, CutOff, WrongCondition, InSetup, InDesign, InSearch}
 
 -- the letters M, D, L, C and O, with the number of bytes of their operands
 abbrev pub width-of : ℕ → Option ℕ
