@@ -1,3 +1,5 @@
+#![tactic(auto)]
+
 pub mod cell;
 pub mod choosing;
 pub mod comparing;

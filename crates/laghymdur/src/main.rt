@@ -1,3 +1,5 @@
+#![tactic(auto)]
+
 use scripts::command::{LINE, LONGEST};
 use sessions::session::Session;
 use std::io;

@@ -1,3 +1,5 @@
+#![tactic(auto)]
+
 pub mod amount;
 pub mod line;
 pub mod link;

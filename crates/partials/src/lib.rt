@@ -1,3 +1,5 @@
+#![tactic(auto)]
+
 pub mod delivered;
 pub mod node;
 pub mod prices;

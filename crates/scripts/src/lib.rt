@@ -1,2 +1,4 @@
+#![tactic(auto)]
+
 pub mod command;
 pub mod fault;

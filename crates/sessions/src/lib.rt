@@ -1,3 +1,5 @@
+#![tactic(auto)]
+
 pub mod measured;
 pub mod rule;
 pub mod search;
