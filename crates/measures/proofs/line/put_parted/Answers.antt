@@ -7,8 +7,8 @@ pub returns : goal.returns
 returns c =
     let one = decimal c.args.first in
     let two = decimal c.args.second in
-    let p = c.put-decimal-slash.ensures in
-    let q = c.put-decimal.ensures in
+    let p = c.put_decimal-slash.ensures in
+    let q = c.put_decimal.ensures in
     let n = p.next in
     let b = p.bytes in
     let m = q.next in

@@ -7,9 +7,9 @@ use Rattle.designs.specs.Grids.{grid_of, cell_in}
 use Rattle.designs.proofs.Loops.{start, two_turn, two_end}
 use Rattle.partials.proofs.prices.over_pairs.Goals as goal
 
-pub with-later-more-uv-requires : goal.with-later-more-uv-requires
-with-later-more-uv-requires g c = (
-  subst (All (λ a. a < 24)) (sym c.split-at.ensures.back) (All-drop (λ a. a < 24) (c.loop-i.i + 1) c.args.left.now c.requires.0),
+pub with_later-more_uv-requires : goal.with_later-more_uv-requires
+with_later-more_uv-requires g c = (
+  subst (All (λ a. a < 24)) (sym c.split_at.ensures.back) (All-drop (λ a. a < 24) (c.loop-i.i + 1) c.args.left.now c.requires.0),
   (All-get_or (λ a. a < 24) c.args.left.now c.loop-i.i 0 c.loop-i-test.true c.requires.0, c.requires.1.0, c.requires.1.1),
 )
 
@@ -30,11 +30,11 @@ loop-i-preserved g c =
     let cells = cell_in (grid_of c.args.design.now) in
     let row = c.args.left.now in
     let a = get_or row c.loop-i.i 0 in
-    let more = c.with-later-more-uv in (
+    let more = c.with_later-more_uv in (
       two_turn K laws (λ a k. crossing K priced (cells a c.args.v) (cells k c.args.u)) row c.loop-i.i c.loop-i.uv c.joined-uv.result more.result.0 c.loop-i-test.true c.joined-uv.ensures
-          (more.ensures.first ∙ ap (over_each K (λ k. crossing K priced (cells a c.args.v) (cells k c.args.u))) c.split-at.ensures.back) c.loop-i.invariant.0,
+          (more.ensures.first ∙ ap (over_each K (λ k. crossing K priced (cells a c.args.v) (cells k c.args.u))) c.split_at.ensures.back) c.loop-i.invariant.0,
       two_turn K laws (λ a k. crossing K priced (cells a c.args.u) (cells k c.args.v)) row c.loop-i.i c.loop-i.vu c.joined-vu.result more.result.1 c.loop-i-test.true c.joined-vu.ensures
-          (more.ensures.second ∙ ap (over_each K (λ k. crossing K priced (cells a c.args.u) (cells k c.args.v))) c.split-at.ensures.back) c.loop-i.invariant.1,
+          (more.ensures.second ∙ ap (over_each K (λ k. crossing K priced (cells a c.args.u) (cells k c.args.v))) c.split_at.ensures.back) c.loop-i.invariant.1,
     )
 
 pub returns : goal.returns

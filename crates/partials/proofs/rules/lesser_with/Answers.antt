@@ -7,8 +7,8 @@ use Rattle.partials.specs.Rules.{lesser}
 use Rattle.partials.proofs.Rulings.{least_between}
 use Rattle.partials.proofs.rules.lesser_with.Goals as goal
 
-pub pair-price-uv-requires : goal.pair-price-uv-requires
-pair-price-uv-requires g c = (c.requires.0, (c.requires.1.0, All-get_or (λ v. v < 24) c.args.others.now c.loop-v.v-index 0 c.loop-v-test.true c.requires.1.1))
+pub pair_price-uv-requires : goal.pair_price-uv-requires
+pair_price-uv-requires g c = (c.requires.0, (c.requires.1.0, All-get_or (λ v. v < 24) c.args.others.now c.loop-v.v-index 0 c.loop-v-test.true c.requires.1.1))
 
 pub loop-v-init : goal.loop-v-init
 loop-v-init g c =
@@ -18,11 +18,11 @@ loop-v-init g c =
 pub loop-v-preserved : goal.loop-v-preserved
 loop-v-preserved g c =
     let K = g.Amount.Amount.kind in
-    let p = c.pair-price-uv in
+    let p = c.pair_price-uv in
     let v = get_or c.args.others.now c.loop-v.v-index 0 in
     each_turn K g.met.Amount.Amount.lawful (least_between K g.M.Measure.priced c.args.design.now c.args.left.now c.args.u)
-    c.args.others.now c.loop-v.v-index c.loop-v.sum c.joined-sum.result c.lesser-of.result c.loop-v-test.true c.joined-sum.ensures
-    (c.lesser-of.ensures ∙ (ap (λ x. lesser K x p.result.1) p.ensures.first ∙ ap (lesser K (between K g.M.Measure.priced (cell_in (grid_of c.args.design.now)) c.args.left.now c.args.u v)) p.ensures.second)) c.loop-v.invariant
+    c.args.others.now c.loop-v.v-index c.loop-v.sum c.joined-sum.result c.lesser_of.result c.loop-v-test.true c.joined-sum.ensures
+    (c.lesser_of.ensures ∙ (ap (λ x. lesser K x p.result.1) p.ensures.first ∙ ap (lesser K (between K g.M.Measure.priced (cell_in (grid_of c.args.design.now)) c.args.left.now c.args.u v)) p.ensures.second)) c.loop-v.invariant
 
 pub returns : goal.returns
 returns g c =

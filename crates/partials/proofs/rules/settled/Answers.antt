@@ -8,12 +8,12 @@ use Rattle.partials.specs.Rules.{over_settled}
 use Rattle.partials.proofs.Rulings.{settled_turn, settled_end}
 use Rattle.partials.proofs.rules.settled.Goals as goal
 
-pub known-with-requires : goal.known-with-requires
-known-with-requires g c = (
+pub known_with-requires : goal.known_with-requires
+known_with-requires g c = (
   c.requires.0,
   (
     All-get_or (λ v. v < 24) c.args.row.now c.loop-i.i 0 (omega (arith, c.requires.1.1, c.loop-i-test.true)) c.requires.1.0,
-    subst (All (λ v. v < 24)) (sym c.split-at.ensures.back) (All-drop (λ v. v < 24) (c.loop-i.i + 1) c.args.row.now c.requires.1.0),
+    subst (All (λ v. v < 24)) (sym c.split_at.ensures.back) (All-drop (λ v. v < 24) (c.loop-i.i + 1) c.args.row.now c.requires.1.0),
   ),
 )
 
@@ -27,8 +27,8 @@ pub loop-i-preserved : goal.loop-i-preserved
 loop-i-preserved g c =
     let K = g.Amount.Amount.kind in
     let f = between K g.M.Measure.priced (cell_in (grid_of c.args.design.now)) c.args.left.now in
-    settled_turn K g.met.Amount.Amount.lawful f c.args.row.now c.args.begun c.requires.1.1 c.loop-i.i c.loop-i.sum c.joined-sum.result c.known-with.result c.loop-i-test.true c.joined-sum.ensures
-    (c.known-with.ensures ∙ ap (over_each K (f (get_or c.args.row.now c.loop-i.i 0))) c.split-at.ensures.back) c.loop-i.invariant
+    settled_turn K g.met.Amount.Amount.lawful f c.args.row.now c.args.begun c.requires.1.1 c.loop-i.i c.loop-i.sum c.joined-sum.result c.known_with.result c.loop-i-test.true c.joined-sum.ensures
+    (c.known_with.ensures ∙ ap (over_each K (f (get_or c.args.row.now c.loop-i.i 0))) c.split_at.ensures.back) c.loop-i.invariant
 
 pub returns : goal.returns
 returns g c =

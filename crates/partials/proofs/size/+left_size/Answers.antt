@@ -9,7 +9,7 @@ returns-in-err-below t c =
     let k = c.args.placed in
     let m = c.args.rights in
     let p : 0 < d = omega arith in
-    rw c.from-residual.ensures (level_none (k + 1) (left_size m (k + 1) (d - 1)) (left_size m k d) (omega arith) (left_step m k d p) c.in-err-below.ensures)
+    rw c.from_residual.ensures (level_none (k + 1) (left_size m (k + 1) (d - 1)) (left_size m k d) (omega arith) (left_step m k d p) c.in-err-below.ensures)
 
 pub returns-then-size-gt-CEILING : goal.returns-then-size-gt-CEILING
 returns-then-size-gt-CEILING t c =

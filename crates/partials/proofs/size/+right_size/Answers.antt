@@ -7,7 +7,7 @@ pub returns-in-err-below : goal.returns-in-err-below
 returns-in-err-below t c =
     let j = c.args.unplaced in
     let p : 0 < j = omega arith in
-    rw c.from-residual.ensures (level_none j (right_size (j - 1)) (right_size j) p (right_step j p) c.in-err-below.ensures)
+    rw c.from_residual.ensures (level_none j (right_size (j - 1)) (right_size j) p (right_step j p) c.in-err-below.ensures)
 
 pub returns-then-size-gt-CEILING : goal.returns-then-size-gt-CEILING
 returns-then-size-gt-CEILING t c =

@@ -8,7 +8,7 @@ pub returns : goal.returns
 returns g c =
     let old = c.args.line.now in
     let text = g.P.PrintingMeasure.written c.args.cost in
-    let one = c.put-field-amount in
+    let one = c.put_field-amount in
     let two = c.write-end in
     let short : two.result + 1 ≤ length old = omega (arith, one.ensures.next, two.ensures.next, c.offer_word.ensures.short, g.met.P.PrintingMeasure.short c.args.cost) in
     let a = wrote_field old old 0 _ one.new.line one.result c.offer_word.result.now 32 (wrote_none old) one.ensures.bytes one.ensures.next in

@@ -16,10 +16,10 @@ fields_same f n p layer e k q =
 pub returns : goal.returns
 returns c =
     let old = c.args.line.now in
-    let one = c.put-field-number in
-    let two = c.put-number-layer in
-    let three = c.put-field-place in
-    let four = c.put-number in
+    let one = c.put_field-number in
+    let two = c.put_number-layer in
+    let three = c.put_field-place in
+    let four = c.put_number in
     let text = c.layer_name.result.now in
     let short : four.result ≤ length old = omega (arith, one.ensures.next, two.ensures.bound, three.ensures.next, c.layer_name.ensures.short, four.ensures.bound) in
     let a = wrote_field old old 0 _ one.new.line one.result (codes "refused") 32 (wrote_none old) one.ensures.bytes one.ensures.next in

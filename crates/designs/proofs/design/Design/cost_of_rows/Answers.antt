@@ -8,8 +8,8 @@ use Rattle.designs.proofs.Drawn.{row_order, row_small}
 use Rattle.designs.proofs.Joined.{cost_by_right_pairs}
 use Rattle.designs.proofs.design.Design.cost_of_rows.Goals as goal
 
-pub price-of-rows-requires : goal.price-of-rows-requires
-price-of-rows-requires g c = (
+pub price_of_rows-requires : goal.price_of_rows-requires
+price_of_rows-requires g c = (
   subst (All (λ a. a < 24)) (sym c.switches.ensures) (row_small c.args.left.now),
   subst (All (λ a. a < 24)) (sym c.switches-2.ensures) (row_small c.args.right.now),
 )
@@ -21,12 +21,12 @@ returns g c =
     let cells = cell_in (grid_of c.args.self.now) in
     let left = c.args.left.now in
     let right = c.args.right.now in
-    let by-pairs = cost_by_right_pairs K g.met.Amount.Amount.lawful priced cells (row_of left) (row_of right) in
+    let by_pairs = cost_by_right_pairs K g.met.Amount.Amount.lawful priced cells (row_of left) (row_of right) in
     record {
-      value = c.price-of-rows.ensures
+      value = c.price_of_rows.ensures
           ∙ (ap (λ xs. over_two K (between K priced cells xs) c.switches-2.result.now) c.switches.ensures
-          ∙ (ap (over_two K (between K priced cells (row_of left))) c.switches-2.ensures ∙ sym by-pairs));
+          ∙ (ap (over_two K (between K priced cells (row_of left))) c.switches-2.ensures ∙ sym by_pairs));
       counted = counted_once cells left.size right.size (row_of left) (row_of right) (row_order left) (row_order right);
       sharers = sharers_never_cross (row_of left) (row_of right);
-      by-pairs = by-pairs;
+      by_pairs = by_pairs;
     }

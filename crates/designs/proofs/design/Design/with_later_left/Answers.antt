@@ -20,8 +20,8 @@ loop-c-preserved g c =
     let priced = g.M.Measure.priced in
     let cell = c.args.cell in
     each_turn K g.met.Amount.Amount.lawful (λ k. crossing K priced cell (cell_in (grid_of c.args.self.now) k c.args.u))
-    c.args.later.now c.loop-c.c-index c.loop-c.sum c.joined-sum.result c.crossing-price.result c.loop-c-test.true c.joined-sum.ensures
-    (c.crossing-price.ensures ∙ ap (crossing K priced cell) c.cell.ensures) c.loop-c.invariant
+    c.args.later.now c.loop-c.c-index c.loop-c.sum c.joined-sum.result c.crossing_price.result c.loop-c-test.true c.joined-sum.ensures
+    (c.crossing_price.ensures ∙ ap (crossing K priced cell) c.cell.ensures) c.loop-c.invariant
 
 pub returns : goal.returns
 returns g c =

@@ -5,8 +5,8 @@ use Rattle.designs.specs.Grids.{grid_of, cell_in}
 use Rattle.designs.proofs.Loops.{start, each_turn, each_end}
 use Rattle.designs.proofs.design.Design.with_later_right.Goals as goal
 
-pub price-between-requires : goal.price-between-requires
-price-between-requires g c = (c.requires.0, (c.requires.1.0, All-get_or (λ a. a < 24) c.args.later.now c.loop-v.v-index 0 c.loop-v-test.true c.requires.1.1))
+pub price_between-requires : goal.price_between-requires
+price_between-requires g c = (c.requires.0, (c.requires.1.0, All-get_or (λ a. a < 24) c.args.later.now c.loop-v.v-index 0 c.loop-v-test.true c.requires.1.1))
 
 pub loop-v-init : goal.loop-v-init
 loop-v-init g c =
@@ -18,8 +18,8 @@ pub loop-v-preserved : goal.loop-v-preserved
 loop-v-preserved g c =
     let K = g.Amount.Amount.kind in
     each_turn K g.met.Amount.Amount.lawful (between K g.M.Measure.priced (cell_in (grid_of c.args.self.now)) c.args.left.now c.args.u)
-    c.args.later.now c.loop-v.v-index c.loop-v.sum c.joined-sum.result c.price-between.result c.loop-v-test.true c.joined-sum.ensures
-    c.price-between.ensures c.loop-v.invariant
+    c.args.later.now c.loop-v.v-index c.loop-v.sum c.joined-sum.result c.price_between.result c.loop-v-test.true c.joined-sum.ensures
+    c.price_between.ensures c.loop-v.invariant
 
 pub returns : goal.returns
 returns g c =

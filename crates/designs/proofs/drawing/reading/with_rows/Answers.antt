@@ -34,7 +34,7 @@ returns-in-err-left c =
     let n = c.args.lefts in
     let m = c.args.rights in
     record {
-      value = ap (on_some rows_of) c.from-residual.ensures ∙ no_left (is_order n xs) (is_order m ys) xs ys c.in-err-left.ensures;
+      value = ap (on_some rows_of) c.from_residual.ensures ∙ no_left (is_order n xs) (is_order m ys) xs ys c.in-err-left.ensures;
       meaning = (decides_order n xs, decides_order m ys);
     }
 
@@ -45,7 +45,7 @@ returns-in-err-right c =
     let n = c.args.lefts in
     let m = c.args.rights in
     record {
-      value = ap (on_some rows_of) c.from-residual-in-err-right.ensures ∙ no_right (is_order n xs) (is_order m ys) xs ys c.in-err-right.ensures;
+      value = ap (on_some rows_of) c.from_residual-in-err-right.ensures ∙ no_right (is_order n xs) (is_order m ys) xs ys c.in-err-right.ensures;
       meaning = (decides_order n xs, decides_order m ys);
     }
 

@@ -13,18 +13,18 @@ first_part n bs l = let e = length-take-le n bs l in rw (sub-zero, e)
 rest_part : (n : ℕ) (bs : List ℕ) → all_255 (take (length bs - n) (drop n bs)) ≡ all_255 (drop n bs)
 rest_part n bs = ap all_255 (take_rest bs n)
 
-pub returns-then-not-names-each-once : goal.returns-then-not-names-each-once
-returns-then-not-names-each-once c =
+pub returns-then-not-names_each_once : goal.returns-then-not-names_each_once
+returns-then-not-names_each_once c =
     let n = c.args.size in
     let bs = c.args.bytes.now in
-    let fails = sym (c.if-not-names-each-once.ensures ∙ first_part n bs (omega arith)) in
+    let fails = sym (c.if-not-names_each_once.ensures ∙ first_part n bs (omega arith)) in
     record { value = and_left (each_once n (take n bs)) (all_255 (drop n bs)) fails; meaning = decides_row n bs c.requires.0.1 c.requires.1 }
 
-pub returns-then-not-is-filler : goal.returns-then-not-is-filler
-returns-then-not-is-filler c =
+pub returns-then-not-is_filler : goal.returns-then-not-is_filler
+returns-then-not-is_filler c =
     let n = c.args.size in
     let bs = c.args.bytes.now in
-    let fails = sym (c.if-not-is-filler.ensures ∙ rest_part n bs) in
+    let fails = sym (c.if-not-is_filler.ensures ∙ rest_part n bs) in
     record { value = and_right (each_once n (take n bs)) (all_255 (drop n bs)) fails; meaning = decides_row n bs c.requires.0.1 c.requires.1 }
 
 -- both tests passed
@@ -36,14 +36,14 @@ pub invariant-of-result : goal.invariant-of-result
 invariant-of-result c =
     let n = c.args.size in
     let bs = c.args.bytes.now in
-    let s = c.copy-from-slice.new.self in
-    let yes = passed n bs (omega arith) c.if-not-names-each-once.ensures c.if-not-is-filler.ensures in
-    let r : RowBytes n s = rw c.copy-from-slice.ensures.after ((decides_row n bs c.requires.0.1 c.requires.1).0 yes) in
+    let s = c.copy_from_slice.new.self in
+    let yes = passed n bs (omega arith) c.if-not-names_each_once.ensures c.if-not-is_filler.ensures in
+    let r : RowBytes n s = rw c.copy_from_slice.ensures.after ((decides_row n bs c.requires.0.1 c.requires.1).0 yes) in
     (c.requires.0, (r.0, (r.1.1, (r.2, (row_below n s r, tt)))))
 
 pub returns : goal.returns
 returns c =
     let n = c.args.size in
     let bs = c.args.bytes.now in
-    let yes = passed n bs (omega arith) c.if-not-names-each-once.ensures c.if-not-is-filler.ensures in
-    record { value = (yes, refl, c.copy-from-slice.ensures.after); meaning = decides_row n bs c.requires.0.1 c.requires.1 }
+    let yes = passed n bs (omega arith) c.if-not-names_each_once.ensures c.if-not-is_filler.ensures in
+    record { value = (yes, refl, c.copy_from_slice.ensures.after); meaning = decides_row n bs c.requires.0.1 c.requires.1 }

@@ -3,4 +3,4 @@ use Rattle.measures.specs.Same.{pair_same}
 use Rattle.measures.proofs.pair.Pair.of.Goals as goal
 
 pub returns : goal.returns
-returns c = pair_same _ _ (omega arith) c.rest-beside.ensures
+returns c = pair_same _ _ (omega arith) c.rest_beside.ensures

@@ -5,8 +5,8 @@ use Rattle.partials.specs.Nodes.{partial_of}
 use Rattle.partials.specs.Partials.{Partial}
 use Rattle.partials.proofs.node.Node.extend_left.Goals as goal
 
-pub push-left-requires : goal.push-left-requires
-push-left-requires c = (
+pub push_left-requires : goal.push_left-requires
+push_left-requires c = (
   omega (arith, c.requires.0, c.loop-a.invariant.1, c.loop-a-test.true),
   All-get_or (λ a. a < 24) c.args.more.now c.loop-a.a-index 0 c.loop-a-test.true c.requires.1,
 )
@@ -16,10 +16,10 @@ loop-a-preserved c =
     let p = partial_of c.args.self.now in
     let xs = c.args.more.now in
     let i = c.loop-a.a-index in (
-      c.push-left.ensures.list
+      c.push_left.ensures.list
           ∙ (ap (λ q. record { placed = q.placed ++ (get_or xs i 0 ∷ []); prefix = q.prefix }) c.loop-a.invariant.0
           ∙ ap (λ ys. record { placed = ys; prefix = p.prefix }) (append_assoc p.placed (take i xs) (get_or xs i 0 ∷ []) ∙ ap (λ ys. p.placed ++ ys) (sym (take_more xs i 0 c.loop-a-test.true)))),
-      omega (arith, c.push-left.ensures.count, c.loop-a.invariant.1),
+      omega (arith, c.push_left.ensures.count, c.loop-a.invariant.1),
     )
 
 pub returns : goal.returns

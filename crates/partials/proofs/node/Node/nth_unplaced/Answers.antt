@@ -7,8 +7,8 @@ use Rattle.partials.specs.Partials.{unplaced}
 use Rattle.partials.proofs.Rulings.{parts_short, parts_back}
 use Rattle.partials.proofs.node.Node.nth_unplaced.Goals as goal
 
-pub split-at-requires : goal.split-at-requires
-split-at-requires c =
+pub split_at-requires : goal.split_at-requires
+split_at-requires c =
     let p = partial_of c.args.self.now in
     parts_short c.switches.result.now p.prefix (unplaced (grid_of c.args.design.now) p) (length c.prefix.result.now) (c.switches.ensures.list ∙ c.of-all.ensures) (ap length c.prefix.ensures.list)
 
@@ -16,13 +16,13 @@ pub returns-in-default : goal.returns-in-default
 returns-in-default c =
     let p = partial_of c.args.self.now in
     let us = unplaced (grid_of c.args.design.now) p in
-    let back = c.split-at.ensures.back ∙ parts_back c.switches.result.now p.prefix us (length c.prefix.result.now) (c.switches.ensures.list ∙ c.of-all.ensures) (ap length c.prefix.ensures.list) in
-    omega (arith, ap length back, ltb-false c.args.at (length c.split-at.result.1.now) (sym c.in-default.ensures.lookup.0))
+    let back = c.split_at.ensures.back ∙ parts_back c.switches.result.now p.prefix us (length c.prefix.result.now) (c.switches.ensures.list ∙ c.of-all.ensures) (ap length c.prefix.ensures.list) in
+    omega (arith, ap length back, ltb-false c.args.at (length c.split_at.result.1.now) (sym c.in-default.ensures.lookup.0))
 
 pub returns : goal.returns
 returns c =
     let p = partial_of c.args.self.now in
     let us = unplaced (grid_of c.args.design.now) p in
-    let back = c.split-at.ensures.back ∙ parts_back c.switches.result.now p.prefix us (length c.prefix.result.now) (c.switches.ensures.list ∙ c.of-all.ensures) (ap length c.prefix.ensures.list) in
-    let inside = ltb-true c.args.at (length c.split-at.result.1.now) (sym c.in-Some.ensures.lookup.0) in
-    (omega (arith, ap length back, inside), get_or_read c.split-at.result.1.now c.args.at c.in-Some.v.now inside c.in-Some.ensures.lookup.1 0 ∙ ap (λ xs. get_or xs c.args.at 0) back)
+    let back = c.split_at.ensures.back ∙ parts_back c.switches.result.now p.prefix us (length c.prefix.result.now) (c.switches.ensures.list ∙ c.of-all.ensures) (ap length c.prefix.ensures.list) in
+    let inside = ltb-true c.args.at (length c.split_at.result.1.now) (sym c.in-Some.ensures.lookup.0) in
+    (omega (arith, ap length back, inside), get_or_read c.split_at.result.1.now c.args.at c.in-Some.v.now inside c.in-Some.ensures.lookup.1 0 ∙ ap (λ xs. get_or xs c.args.at 0) back)

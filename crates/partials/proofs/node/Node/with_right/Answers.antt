@@ -20,8 +20,8 @@ pub returns-in-err-v : goal.returns-in-err-v
 returns-in-err-v c =
     let p = partial_of c.args.self.now in
     record {
-      child = ap (on_some partial_of) c.from-residual.ensures ∙ sym (no_adding p (unplaced (grid_of c.args.design.now) p) c.args.at c.in-err-v.ensures);
-      few = subst (λ r. IfSome r (λ _. c.args.at < 48)) (sym c.from-residual.ensures) tt;
+      child = ap (on_some partial_of) c.from_residual.ensures ∙ sym (no_adding p (unplaced (grid_of c.args.design.now) p) c.args.at c.in-err-v.ensures);
+      few = subst (λ r. IfSome r (λ _. c.args.at < 48)) (sym c.from_residual.ensures) tt;
     }
 
 pub returns : goal.returns

@@ -19,6 +19,6 @@ step xs ys begun prefix there v e h q =
 pub loop-v-preserved : goal.loop-v-preserved
 loop-v-preserved c =
     let prefix = (partial_of c.args.node.now).prefix in (
-      step (rights_of c.push-unless.new.self) (rights_of c.loop-v.self) (rights_of c.args.self.now) prefix c.names.result c.loop-v.v c.push-unless.ensures.list c.loop-v.invariant.0 (c.names.ensures ∙ ap (λ xs. has xs c.loop-v.v) c.prefix.ensures.list),
-      omega (arith, c.push-unless.ensures.count, c.loop-v.invariant.1),
+      step (rights_of c.push_unless.new.self) (rights_of c.loop-v.self) (rights_of c.args.self.now) prefix c.names.result c.loop-v.v c.push_unless.ensures.list c.loop-v.invariant.0 (c.names.ensures ∙ ap (λ xs. has xs c.loop-v.v) c.prefix.ensures.list),
+      omega (arith, c.push_unless.ensures.count, c.loop-v.invariant.1),
     )

@@ -14,7 +14,7 @@ stepping-preserved g c =
     let grid = grid_in c.args.self.now in
     let w = walk_of c.stepping.self in
     let i = c.stepping.invariant in
-    let more = sym c.if-is-done.ensures in
+    let more = sym c.if-is_done.ensures in
     let step = c.open_one.ensures.walk ∙ ap (λ d. open_one K (grid_of d) (cost (grid_of d)) (answer (grid_of d)) w) i.3 in (
       ap (run K grid (cost grid) (answer grid) (c.args.nodes - (c.stepping.opened + 1))) step
           ∙ (sym (run_on K grid (cost grid) (answer grid) c.args.nodes c.stepping.opened w (omega (arith, i.1, c.if-opened-nodes.false)) more) ∙ i.0),
@@ -23,14 +23,14 @@ stepping-preserved g c =
       c.open_one.ensures.design ∙ i.3,
     )
 
-pub returns-then-is-done : goal.returns-then-is-done
-returns-then-is-done g c =
+pub returns-then-is_done : goal.returns-then-is_done
+returns-then-is_done g c =
     let K = g.Amount.Amount.kind in
     let grid = grid_in c.args.self.now in
     let w = walk_of c.stepping.self in
     let i = c.stepping.invariant in
     record {
-      walk = sym (run_done K grid (cost_of K g.M.Measure.priced grid) (g.R.BoundingRule.answered c.args.rule.now grid) (c.args.nodes - c.stepping.opened) w (sym c.if-is-done.ensures)) ∙ i.0;
+      walk = sym (run_done K grid (cost_of K g.M.Measure.priced grid) (g.R.BoundingRule.answered c.args.rule.now grid) (c.args.nodes - c.stepping.opened) w (sym c.if-is_done.ensures)) ∙ i.0;
       opened = sym i.2;
       design = i.3;
     }

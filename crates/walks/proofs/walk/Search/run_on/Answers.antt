@@ -20,16 +20,16 @@ returns g c =
     let G = grid_in s in
     let cost = cost_of K priced G in
     let w = walk_of s in
-    let v = walk_of c.run-for.new.self in
+    let v = walk_of c.run_for.new.self in
     let after = run K G cost (answered G) b w in
-    let done = c.run-for.ensures in
+    let done = c.run_for.ensures in
     record {
       ran = record {
         design = done.design;
         walk = done.walk;
         opened = done.opened;
         exact = subst (Exact K b w) (sym done.walk) (run_exact K laws G cost (answered G) b w);
-        below = λ root r. reached_same K priced answered root s.path.design c.run-for.new.self.path.design after v done.design done.walk (run_reached K laws G cost (answered G) (bounds G) root b w r);
+        below = λ root r. reached_same K priced answered root s.path.design c.run_for.new.self.path.design after v done.design done.walk (run_reached K laws G cost (answered G) (bounds G) root b w r);
         steady = λ root r. subst (Steady K w) (sym done.walk) (run_steady K laws G cost (answered G) (bounds G) root b w r);
       };
     }

@@ -19,7 +19,7 @@ returns g c =
     let G = grid_of d in
     let p = partial_of c.args.root in
     let x = rows_of c.args.first in
-    let is = start_same K G (cost_of K priced G) (answered G) p x c.args.cost c.answer-bound.result c.is-at-most.result (frontier_of c.begin.result) c.requires.1.1.1 c.answer-bound.ensures c.is-at-most.ensures c.begin.ensures.frontier in
+    let is = start_same K G (cost_of K priced G) (answered G) p x c.args.cost c.answer-bound.result c.is_at_most.result (frontier_of c.begin.result) c.requires.1.1.1 c.answer-bound.ensures c.is_at_most.ensures c.begin.ensures.frontier in
     record {
       design = ap grid_of c.begin.ensures.design;
       walk = is;
