@@ -69,7 +69,7 @@ pub fn choose<'a, M: Measure>(
     first: &'a [u8],
     second: &'a [u8],
 ) -> Result<&'a [u8], ChoiceFault>
-    ensures { result ≡ choice Amount-as-Amount.kind (cost_of Amount-as-Amount.kind M.Measure.priced (grid_of design.now)) (read_part (grid_of design.now) first.now) (read_part (grid_of design.now) second.now) first.entry second.entry }
+    ensures { result ≡ choice M.Amount.Amount.kind (cost_of M.Amount.Amount.kind M.Measure.priced (grid_of design.now)) (read_part (grid_of design.now) first.now) (read_part (grid_of design.now) second.now) first.entry second.entry }
 {
     let one = match read_part(design, first) {
         Ok(drawing) => drawing,

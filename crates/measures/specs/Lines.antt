@@ -1,5 +1,5 @@
 -- Bytes written into a line.
-use Rattle.std.specs.Prelude.{◌≡◌, ℕ, ◌+◌, List, [], ◌∷◌, ◌≢◌, slice_set}
+use Rattle.std.specs.Prelude.{ℕ, ◌+◌, List, [], ◌∷◌, ◌≢◌, slice_set}
 
 -- xs with bs written over it from at on
 abbrev pub over : List ℕ → ℕ → List ℕ → List ℕ

@@ -1,6 +1,6 @@
 -- Bytes written one after another into a line.
-use Rattle.std.specs.Prelude.{◌≡◌, ℕ, zero, suc, ◌+◌, ◌≤◌, List, [], ◌∷◌, ◌++◌, length, drop, slice_set, refl}
-use Rattle.std.proofs.Common.{sym, ap, ◌∙◌, arith, length-set}
+use Rattle.std.specs.Prelude.{◌≡◌, ℕ, suc, ◌+◌, ◌≤◌, List, [], ◌∷◌, ◌++◌, length, drop, slice_set, refl}
+use Rattle.std.proofs.Common.{ap, ◌∙◌, arith, length-set}
 use Rattle.measures.specs.Lines.{over}
 
 pub over_more : (xs : List ℕ) (at : ℕ) (ds : List ℕ) (b : ℕ) → over xs at (ds ++ (b ∷ [])) ≡ slice_set (over xs at ds) (at + length ds) b

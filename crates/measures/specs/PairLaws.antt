@@ -1,13 +1,12 @@
 -- The four laws of pairs, as facts of numbers.
-use Rattle.std.specs.Prelude.{◌≡◌, ℕ, ◌+◌, ◌-◌, ◌*◌, ◌^◌, ◌<◌, ◌≤◌, min, Bool, true, false, cond, ◌&&◌, ◌||◌, ◌⊎◌, ◌==◌, nat_le, nat_lt, refl}
-use Rattle.std.proofs.Common.{ap, ◌∙◌, inl, inr, mul_comm, arith}
+use Rattle.std.specs.Prelude.{◌≡◌, ℕ, ◌*◌, ◌≤◌, min, Bool, true, false, cond, ◌&&◌, ◌||◌, ◌⊎◌, ◌==◌, nat_le, nat_lt, refl}
+use Rattle.std.proofs.Common.{ap, ◌∙◌, mul_comm, arith}
 use Rattle.std.proofs.lemmas.Bool.Decides.{nat_tests}
 use Rattle.measures.specs.Amounts.{Lawful}
 use Rattle.measures.specs.Sums.{most, plus}
 use Rattle.measures.specs.Pairs.{pairs, pair_held, rest_held}
 use Rattle.measures.specs.Prices.{trunk_price, is_trunk}
 use Rattle.measures.specs.declared.link.Link.{Link}
-use Rattle.measures.specs.declared.pair.Pair.{Pair}
 use Rattle.measures.specs.Same.{pair_same}
 use Rattle.measures.specs.SumLaws.{held_assoc}
 

@@ -1,6 +1,6 @@
 -- Pairs (trunk, rest), compared by trunk and then by rest.
 -- Join adds each part. The rest is held at the top; a trunk part at the top or above makes both parts the top.
-use Rattle.std.specs.Prelude.{◌≡◌, ℕ, ◌+◌, ◌-◌, ◌^◌, ◌<◌, min, Bool, true, false, cond, ◌&&◌, ◌||◌, ◌==◌, nat_le, nat_lt}
+use Rattle.std.specs.Prelude.{◌≡◌, ℕ, ◌^◌, ◌<◌, min, Bool, true, false, cond, ◌&&◌, ◌||◌, ◌==◌, nat_le, nat_lt}
 use Rattle.std.proofs.Common.{ap, le-leb, arith}
 use Rattle.measures.specs.Amounts.{Kind}
 use Rattle.measures.specs.Sums.{most, plus}

@@ -1,5 +1,5 @@
 -- The four laws of sums held at the top.
-use Rattle.std.specs.Prelude.{◌≡◌, ℕ, ◌+◌, min, true, ◌⊎◌, nat_le}
+use Rattle.std.specs.Prelude.{◌≡◌, ℕ, min, true, ◌⊎◌, nat_le}
 use Rattle.std.proofs.Common.{sym, ap, ◌∙◌, mul_comm, arith, leb-true}
 use Rattle.std.proofs.lemmas.Bool.Decides.{nat_tests}
 use Rattle.measures.specs.Amounts.{Lawful}

@@ -1,5 +1,5 @@
 -- Whole numbers up to 2^64 - 1: join is the sum, held at the top.
-use Rattle.std.specs.Prelude.{ℕ, ◌+◌, ◌-◌, ◌^◌, ◌<◌, min, nat_le}
+use Rattle.std.specs.Prelude.{ℕ, ◌+◌, ◌-◌, ◌^◌, min, nat_le}
 use Rattle.std.proofs.Common.{arith}
 use Rattle.measures.specs.Amounts.{Kind}
 use Rattle.measures.specs.declared.sum.Sum.{Sum}

@@ -20,9 +20,9 @@ use measures::measure::Measure;
 pub struct SettledPairs;
 
 impl<M: Measure> BoundingRule<M> for SettledPairs {
-    ghost answered = { λ s g p. settled_price Amount-as-Amount.kind M.Measure.priced g p };
+    ghost answered = { λ s g p. settled_price M.Amount.Amount.kind M.Measure.priced g p };
 
-    ghost bounds = { λ s d p x h c. settled_bounds d p x h c Amount-as-Amount.kind Amount-as-Amount.lawful M.Measure.priced };
+    ghost bounds = { λ s d p x h c. settled_bounds d p x h c M.Amount.Amount.kind M.Amount.Amount.lawful M.Measure.priced };
 
     fn answer(&self, design: &Design, node: &Node) -> M::Amount {
         settled_price::<M>(design, node)

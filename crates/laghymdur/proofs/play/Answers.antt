@@ -9,7 +9,7 @@ within old line bytes wrote e k w =
     let d = length-drop (length bytes) old in
     omega arith
 
-pub slice-bounds-write_all-end : goal.slice-bounds-write_all-end
-slice-bounds-write_all-end c =
+pub slice_bounds-write_all-end : goal.slice_bounds-write_all-end
+slice_bounds-write_all-end c =
     let a = c.call-answer in
     within c.loop-at.line a.new.line _ a.result.wrote a.ensures.bytes a.auto.line a.ensures.wrote

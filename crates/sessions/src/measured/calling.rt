@@ -24,9 +24,9 @@ impl<M: Measure, R: Drop> MeasuredSession<M, R> {
 
     // Carries out the command at a byte of the script, for a line with this much room.
     pub fn call(&mut self, script: &[u8], place: usize, room: usize) -> Reply<M>
-        ensures told { result.told ≡ (called Amount-as-Amount.kind M.Measure.priced (stage_of self.old.condition) script.now place room).told }
+        ensures told { result.told ≡ (called M.Amount.Amount.kind M.Measure.priced (stage_of self.old.condition) script.now place room).told }
         ensures next { result.next ≡ next_byte script.now place (read_command script.now place room) }
-        ensures stage { stage_of self.new.condition ≡ (called {M = M} Amount-as-Amount.kind M.Measure.priced (stage_of self.old.condition) script.now place room).stage }
+        ensures stage { stage_of self.new.condition ≡ (called {M = M} M.Amount.Amount.kind M.Measure.priced (stage_of self.old.condition) script.now place room).stage }
         ensures refused { OnErr result.told (self.new ≡ self.old) }
         ensures rule { self.new.rule ≡ self.old.rule }
     {
@@ -48,11 +48,11 @@ impl<M: Measure, R: Drop> MeasuredSession<M, R> {
 impl<P: PrintingMeasure, R: Drop> MeasuredSession<P, R> {
     // The same, written into the lent line.
     pub fn call_on_line(&mut self, script: &[u8], place: usize, line: &mut [u8]) -> LineReply<P>
-        ensures told { result.told ≡ (called Amount-as-Amount.kind P.Measure.priced (stage_of self.old.condition) script.now place (length line.old)).told }
+        ensures told { result.told ≡ (called P.Amount.Amount.kind P.Measure.priced (stage_of self.old.condition) script.now place (length line.old)).told }
         ensures next { result.next ≡ next_byte script.now place (read_command script.now place (length line.old)) }
         ensures wrote { result.wrote ≡ length (if_room (length line.old) (answer_line written result.told)) }
         ensures bytes { line.new ≡ written_on line.old (if_room (length line.old) (answer_line written result.told)) }
-        ensures stage { stage_of self.new.condition ≡ (called {M = P} Amount-as-Amount.kind P.Measure.priced (stage_of self.old.condition) script.now place (length line.old)).stage }
+        ensures stage { stage_of self.new.condition ≡ (called {M = P} P.Amount.Amount.kind P.Measure.priced (stage_of self.old.condition) script.now place (length line.old)).stage }
         ensures refused { OnErr result.told (self.new ≡ self.old) }
         ensures rule { self.new.rule ≡ self.old.rule }
     {

@@ -31,8 +31,8 @@ impl<M: Measure, R: Drop> MeasuredSession<M, R> {
         operands: &[u8],
     ) -> Result<Telling<M>, ScriptFault>
         requires { width_of letter ≡ Some (length operands.now) }
-        ensures told { result ≡ (carried Amount-as-Amount.kind M.Measure.priced (stage_of self.old.condition) letter place operands.now).told }
-        ensures stage { stage_of self.new.condition ≡ (carried {M = M} Amount-as-Amount.kind M.Measure.priced (stage_of self.old.condition) letter place operands.now).stage }
+        ensures told { result ≡ (carried M.Amount.Amount.kind M.Measure.priced (stage_of self.old.condition) letter place operands.now).told }
+        ensures stage { stage_of self.new.condition ≡ (carried {M = M} M.Amount.Amount.kind M.Measure.priced (stage_of self.old.condition) letter place operands.now).stage }
         ensures refused { OnErr result (self.new ≡ self.old) }
         ensures rule { self.new.rule ≡ self.old.rule }
     {

@@ -12,7 +12,7 @@ use measures::measure::Measure;
 impl<M: Measure> Search<M> {
     // A search of a closed design: both rows in number order are the best drawing.
     pub fn start(design: Design) -> Search<M>
-        ensures { stage_searching result ≡ closed Amount-as-Amount.kind M.Measure.priced (grid_of design) }
+        ensures { stage_searching result ≡ closed M.Amount.Amount.kind M.Measure.priced (grid_of design) }
     {
         let incumbent = Drawing::in_number_order(&design);
         let cost = design.cost::<M>(&incumbent);

@@ -21,7 +21,7 @@ impl<M: Measure> Search<M> {
     // Opens up to so many nodes, until the walk is done; answers how many.
     fn run_for<R: BoundingRule<M>>(&mut self, rule: &R, nodes: u32) -> u32
         requires { self.old.opened + nodes ≤ 1000000000 }
-        ensures walk { walk_of self.new ≡ run Amount-as-Amount.kind (grid_in self.old) (cost_of Amount-as-Amount.kind M.Measure.priced (grid_in self.old)) (R.BoundingRule.answered rule.now (grid_in self.old)) nodes (walk_of self.old) }
+        ensures walk { walk_of self.new ≡ run M.Amount.Amount.kind (grid_in self.old) (cost_of M.Amount.Amount.kind M.Measure.priced (grid_in self.old)) (R.BoundingRule.answered rule.now (grid_in self.old)) nodes (walk_of self.old) }
         ensures opened { self.old.opened + result ≡ self.new.opened }
         ensures design { self.new.path.design ≡ self.old.path.design }
     {
@@ -42,7 +42,7 @@ impl<M: Measure> Search<M> {
     // The same, and what is true of it.
     fn run_on<R: BoundingRule<M>>(&mut self, rule: &R, nodes: u32) -> u32
         requires { self.old.opened + nodes ≤ 1000000000 }
-        ensures ran { Ran Amount-as-Amount.kind M.Measure.priced (R.BoundingRule.answered rule.now) nodes self.old self.new result }
+        ensures ran { Ran M.Amount.Amount.kind M.Measure.priced (R.BoundingRule.answered rule.now) nodes self.old self.new result }
     {
         self.run_for(rule, nodes)
     }
@@ -52,7 +52,7 @@ impl<M: Measure> Search<M> {
     pub fn run<R: BoundingRule<M>>(&mut self, rule: &R, nodes: u32) -> Result<u32, RunFault>
         ensures check { on_ok (λ _. nodes) result ≡ run_check self.old.opened nodes }
         ensures refused { OnErr result (self.new ≡ self.old) }
-        ensures ran { IfOk result (λ n. Ran Amount-as-Amount.kind M.Measure.priced (R.BoundingRule.answered rule.now) nodes self.old self.new n) }
+        ensures ran { IfOk result (λ n. Ran M.Amount.Amount.kind M.Measure.priced (R.BoundingRule.answered rule.now) nodes self.old self.new n) }
     {
         if nodes == 0 || nodes > MOST_ASKED {
             return Err(RunFault::Nodes);

@@ -1,4 +1,4 @@
-use Rattle.std.proofs.Common.{◌≡◌, ◌+◌, ◌^◌, ◌<◌, ◌≤◌, length, set, ap, ◌∙◌, arith, rules}
+use Rattle.std.proofs.Common.{◌<◌, arith}
 use Rattle.measures.specs.Digits.{one_length, one_over, more_length, more_over}
 use Rattle.measures.proofs.line.+put_digits.Goals as goal
 

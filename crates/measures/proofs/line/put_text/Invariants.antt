@@ -1,4 +1,4 @@
-use Rattle.std.proofs.Common.{◌≡◌, length, take}
+use Rattle.std.proofs.Common.{◌≡◌, take}
 use Rattle.measures.specs.Lines.{over}
 use Rattle.measures.proofs.line.put_text.Given as goal
 

@@ -15,8 +15,8 @@ with_later-more_uv-requires g c = (
 
 pub loop-i-init : goal.loop-i-init
 loop-i-init g c =
-    let K = g.Amount.Amount.kind in
-    let laws = g.met.Amount.Amount.lawful in
+    let K = g.M.Amount.Amount.kind in
+    let laws = g.met.M.Amount.Amount.lawful in
     let cells = cell_in (grid_of c.args.design.now) in (
       start K laws (λ xs. between K g.M.Measure.priced cells xs c.args.u c.args.v) c.args.left.now c.nothing-uv.result c.nothing-uv.ensures,
       start K laws (λ xs. between K g.M.Measure.priced cells xs c.args.v c.args.u) c.args.left.now c.nothing-vu.result c.nothing-vu.ensures,
@@ -24,8 +24,8 @@ loop-i-init g c =
 
 pub loop-i-preserved : goal.loop-i-preserved
 loop-i-preserved g c =
-    let K = g.Amount.Amount.kind in
-    let laws = g.met.Amount.Amount.lawful in
+    let K = g.M.Amount.Amount.kind in
+    let laws = g.met.M.Amount.Amount.lawful in
     let priced = g.M.Measure.priced in
     let cells = cell_in (grid_of c.args.design.now) in
     let row = c.args.left.now in
@@ -39,8 +39,8 @@ loop-i-preserved g c =
 
 pub returns : goal.returns
 returns g c =
-    let K = g.Amount.Amount.kind in
-    let laws = g.met.Amount.Amount.lawful in
+    let K = g.M.Amount.Amount.kind in
+    let laws = g.met.M.Amount.Amount.lawful in
     let priced = g.M.Measure.priced in
     let cells = cell_in (grid_of c.args.design.now) in
     record {

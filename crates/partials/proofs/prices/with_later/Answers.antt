@@ -14,8 +14,8 @@ cell-requires-in-loop-c g c = (All-get_or (λ a. a < 24) c.args.later.now c.loop
 
 pub loop-c-init : goal.loop-c-init
 loop-c-init g c =
-    let K = g.Amount.Amount.kind in
-    let laws = g.met.Amount.Amount.lawful in
+    let K = g.M.Amount.Amount.kind in
+    let laws = g.met.M.Amount.Amount.lawful in
     let priced = g.M.Measure.priced in
     let cells = cell_in (grid_of c.args.design.now) in (
       start K laws (over_each K (λ k. crossing K priced c.cell-to_v.result (cells k c.args.u))) c.args.later.now c.nothing-uv.result c.nothing-uv.ensures,
@@ -24,8 +24,8 @@ loop-c-init g c =
 
 pub loop-c-preserved : goal.loop-c-preserved
 loop-c-preserved g c =
-    let K = g.Amount.Amount.kind in
-    let laws = g.met.Amount.Amount.lawful in
+    let K = g.M.Amount.Amount.kind in
+    let laws = g.met.M.Amount.Amount.lawful in
     let priced = g.M.Measure.priced in
     let cells = cell_in (grid_of c.args.design.now) in
     let later = c.args.later.now in
@@ -39,8 +39,8 @@ loop-c-preserved g c =
 
 pub returns : goal.returns
 returns g c =
-    let K = g.Amount.Amount.kind in
-    let laws = g.met.Amount.Amount.lawful in
+    let K = g.M.Amount.Amount.kind in
+    let laws = g.met.M.Amount.Amount.lawful in
     let priced = g.M.Measure.priced in
     let cells = cell_in (grid_of c.args.design.now) in
     let later = c.args.later.now in

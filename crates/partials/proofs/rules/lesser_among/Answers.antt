@@ -19,7 +19,7 @@ lesser_pairs-requires g c = (c.left.ensures.below, subst (All (λ v. v < 24)) (s
 pub returns : goal.returns
 returns g c =
     let p = partial_of c.args.node.now in
-    let K = g.Amount.Amount.kind in
+    let K = g.M.Amount.Amount.kind in
     let d = c.args.design.now in
     let f : List ℕ → List ℕ → _ = λ l xs. over_two K (least_between K g.M.Measure.priced d l) xs in
     let free = c.split_at.ensures.back ∙ parts_back c.switches.result.now p.prefix (unplaced (grid_of d) p) (length c.prefix.result.now) (c.switches.ensures.list ∙ c.requires) (ap length c.prefix.ensures.list) in

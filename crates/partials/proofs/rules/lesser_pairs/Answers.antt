@@ -17,17 +17,17 @@ lesser_with-requires g c = (
 
 pub loop-i-init : goal.loop-i-init
 loop-i-init g c =
-    let K = g.Amount.Amount.kind in
-    start K g.met.Amount.Amount.lawful (over_two K (least_between K g.M.Measure.priced c.args.design.now c.args.left.now)) c.args.row.now c.nothing-sum.result c.nothing-sum.ensures
+    let K = g.M.Amount.Amount.kind in
+    start K g.met.M.Amount.Amount.lawful (over_two K (least_between K g.M.Measure.priced c.args.design.now c.args.left.now)) c.args.row.now c.nothing-sum.result c.nothing-sum.ensures
 
 pub loop-i-preserved : goal.loop-i-preserved
 loop-i-preserved g c =
-    let K = g.Amount.Amount.kind in
+    let K = g.M.Amount.Amount.kind in
     let f = least_between K g.M.Measure.priced c.args.design.now c.args.left.now in
-    two_turn K g.met.Amount.Amount.lawful f c.args.row.now c.loop-i.i c.loop-i.sum c.joined-sum.result c.lesser_with.result c.loop-i-test.true c.joined-sum.ensures
+    two_turn K g.met.M.Amount.Amount.lawful f c.args.row.now c.loop-i.i c.loop-i.sum c.joined-sum.result c.lesser_with.result c.loop-i-test.true c.joined-sum.ensures
     (c.lesser_with.ensures ∙ ap (over_each K (f (get_or c.args.row.now c.loop-i.i 0))) c.split_at.ensures.back) c.loop-i.invariant
 
 pub returns : goal.returns
 returns g c =
-    let K = g.Amount.Amount.kind in
-    two_end K g.met.Amount.Amount.lawful (least_between K g.M.Measure.priced c.args.design.now c.args.left.now) c.args.row.now c.loop-i.i c.loop-i.sum c.loop-i-test.false c.loop-i.invariant
+    let K = g.M.Amount.Amount.kind in
+    two_end K g.met.M.Amount.Amount.lawful (least_between K g.M.Measure.priced c.args.design.now c.args.left.now) c.args.row.now c.loop-i.i c.loop-i.sum c.loop-i-test.false c.loop-i.invariant

@@ -12,20 +12,20 @@ pair_price-uv-requires g c = (c.requires.0, (c.requires.1.0, All-get_or (λ v. v
 
 pub loop-v-init : goal.loop-v-init
 loop-v-init g c =
-    let K = g.Amount.Amount.kind in
-    start K g.met.Amount.Amount.lawful (over_each K (least_between K g.M.Measure.priced c.args.design.now c.args.left.now c.args.u)) c.args.others.now c.nothing-sum.result c.nothing-sum.ensures
+    let K = g.M.Amount.Amount.kind in
+    start K g.met.M.Amount.Amount.lawful (over_each K (least_between K g.M.Measure.priced c.args.design.now c.args.left.now c.args.u)) c.args.others.now c.nothing-sum.result c.nothing-sum.ensures
 
 pub loop-v-preserved : goal.loop-v-preserved
 loop-v-preserved g c =
-    let K = g.Amount.Amount.kind in
+    let K = g.M.Amount.Amount.kind in
     let p = c.pair_price-uv in
     let v = get_or c.args.others.now c.loop-v.v-index 0 in
-    each_turn K g.met.Amount.Amount.lawful (least_between K g.M.Measure.priced c.args.design.now c.args.left.now c.args.u)
+    each_turn K g.met.M.Amount.Amount.lawful (least_between K g.M.Measure.priced c.args.design.now c.args.left.now c.args.u)
     c.args.others.now c.loop-v.v-index c.loop-v.sum c.joined-sum.result c.lesser_of.result c.loop-v-test.true c.joined-sum.ensures
     (c.lesser_of.ensures ∙ (ap (λ x. lesser K x p.result.1) p.ensures.first ∙ ap (lesser K (between K g.M.Measure.priced (cell_in (grid_of c.args.design.now)) c.args.left.now c.args.u v)) p.ensures.second)) c.loop-v.invariant
 
 pub returns : goal.returns
 returns g c =
-    let K = g.Amount.Amount.kind in
-    each_end K g.met.Amount.Amount.lawful (least_between K g.M.Measure.priced c.args.design.now c.args.left.now c.args.u)
+    let K = g.M.Amount.Amount.kind in
+    each_end K g.met.M.Amount.Amount.lawful (least_between K g.M.Measure.priced c.args.design.now c.args.left.now c.args.u)
     c.args.others.now c.loop-v.v-index c.loop-v.sum c.loop-v-test.false c.loop-v.invariant

@@ -5,5 +5,5 @@ use Rattle.partials.proofs.rules.lesser_with.Given as goal
 
 abbrev pub invariant-loop-v : goal.invariant-loop-v
 invariant-loop-v g l =
-    let K = g.Amount.Amount.kind in
+    let K = g.M.Amount.Amount.kind in
     Stays K (over_each K (least_between K g.M.Measure.priced l.design l.left l.u)) l.others l.v-index l.sum

@@ -19,6 +19,6 @@ settled-requires g c =
 pub returns : goal.returns
 returns g c =
     let p = partial_of c.args.node.now in
-    let K = g.Amount.Amount.kind in
+    let K = g.M.Amount.Amount.kind in
     c.settled.ensures ∙ settled_parts c.switches.result.now p.prefix (unplaced (grid_of c.args.design.now) p) (length c.prefix.result.now) (c.switches.ensures.list ∙ c.requires) (ap length c.prefix.ensures.list)
     K (between K g.M.Measure.priced (cell_in (grid_of c.args.design.now))) c.left.result.now p.placed c.left.ensures.list

@@ -3,13 +3,13 @@ use Rattle.partials.specs.Sizes.{left_size}
 use Rattle.partials.proofs.Capped.{left_step, level_none, level_over, level_some}
 use Rattle.partials.proofs.size.+left_size.Goals as goal
 
-pub returns-in-err-below : goal.returns-in-err-below
-returns-in-err-below t c =
+pub returns-in_err-below : goal.returns-in_err-below
+returns-in_err-below t c =
     let d = c.args.unplaced in
     let k = c.args.placed in
     let m = c.args.rights in
     let p : 0 < d = omega arith in
-    rw c.from_residual.ensures (level_none (k + 1) (left_size m (k + 1) (d - 1)) (left_size m k d) (omega arith) (left_step m k d p) c.in-err-below.ensures)
+    rw c.from_residual.ensures (level_none (k + 1) (left_size m (k + 1) (d - 1)) (left_size m k d) (omega arith) (left_step m k d p) c.in_err-below.ensures)
 
 pub returns-then-size-gt-CEILING : goal.returns-then-size-gt-CEILING
 returns-then-size-gt-CEILING t c =
@@ -17,7 +17,7 @@ returns-then-size-gt-CEILING t c =
     let k = c.args.placed in
     let m = c.args.rights in
     let p : 0 < d = omega arith in
-    level_over (k + 1) (left_size m (k + 1) (d - 1)) (left_size m k d) (omega arith) (left_step m k d p) c.in-ok-below.below c.in-ok-below.ensures (omega arith)
+    level_over (k + 1) (left_size m (k + 1) (d - 1)) (left_size m k d) (omega arith) (left_step m k d p) c.in_ok-below.below c.in_ok-below.ensures (omega arith)
 
 pub returns-else-size-gt-CEILING : goal.returns-else-size-gt-CEILING
 returns-else-size-gt-CEILING t c =
@@ -25,4 +25,4 @@ returns-else-size-gt-CEILING t c =
     let k = c.args.placed in
     let m = c.args.rights in
     let p : 0 < d = omega arith in
-    level_some (k + 1) (left_size m (k + 1) (d - 1)) (left_size m k d) (omega arith) (left_step m k d p) c.in-ok-below.below c.in-ok-below.ensures (omega arith)
+    level_some (k + 1) (left_size m (k + 1) (d - 1)) (left_size m k d) (omega arith) (left_step m k d p) c.in_ok-below.below c.in_ok-below.ensures (omega arith)

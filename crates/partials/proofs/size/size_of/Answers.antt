@@ -11,8 +11,8 @@ use Rattle.partials.proofs.size.size_of.Goals as goal
 nodes : (n m : ℕ) (c : Cells) → nodes_below (record { lefts = n; rights = m; cells = c }) nothing_placed ≡ tree_size n m
 nodes n m c = let g : Grid = record { lefts = n; rights = m; cells = c } in tree_counted g nothing_placed (nothing_partial g) refl refl
 
-pub returns-in-err-size : goal.returns-in-err-size
-returns-in-err-size c = record { size = c.from_residual.ensures ∙ c.in-err-size.ensures; counted = nodes c.args.lefts c.args.rights }
+pub returns-in_err-size : goal.returns-in_err-size
+returns-in_err-size c = record { size = c.from_residual.ensures ∙ c.in_err-size.ensures; counted = nodes c.args.lefts c.args.rights }
 
 pub returns : goal.returns
-returns c = record { size = c.in-ok-size.ensures; counted = nodes c.args.lefts c.args.rights }
+returns c = record { size = c.in_ok-size.ensures; counted = nodes c.args.lefts c.args.rights }

@@ -16,12 +16,12 @@ price_of_rows-requires g c = (
 
 pub returns : goal.returns
 returns g c =
-    let K = g.Amount.Amount.kind in
+    let K = g.M.Amount.Amount.kind in
     let priced = g.M.Measure.priced in
     let cells = cell_in (grid_of c.args.self.now) in
     let left = c.args.left.now in
     let right = c.args.right.now in
-    let by_pairs = cost_by_right_pairs K g.met.Amount.Amount.lawful priced cells (row_of left) (row_of right) in
+    let by_pairs = cost_by_right_pairs K g.met.M.Amount.Amount.lawful priced cells (row_of left) (row_of right) in
     record {
       value = c.price_of_rows.ensures
           ∙ (ap (λ xs. over_two K (between K priced cells xs) c.switches-2.result.now) c.switches.ensures

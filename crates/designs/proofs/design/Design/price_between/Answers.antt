@@ -15,10 +15,10 @@ with_later_left-requires g c = (subst (All (λ a. a < 24)) (sym c.behind.ensures
 
 pub loop-i-preserved : goal.loop-i-preserved
 loop-i-preserved g c =
-    let K = g.Amount.Amount.kind in
+    let K = g.M.Amount.Amount.kind in
     let priced = g.M.Measure.priced in
     let cells = cell_in (grid_of c.args.self.now) in
-    two_turn K g.met.Amount.Amount.lawful (λ a k. crossing K priced (cells a c.args.v) (cells k c.args.u))
+    two_turn K g.met.M.Amount.Amount.lawful (λ a k. crossing K priced (cells a c.args.v) (cells k c.args.u))
     c.args.left.now c.loop-i.i c.loop-i.sum c.joined-sum.result c.with_later_left.result c.loop-i-test.true c.joined-sum.ensures
     (c.with_later_left.ensures
     ∙ (ap (λ x. over_each K (λ k. crossing K priced x (cells k c.args.u)) c.behind.result.now) c.cell-cell.ensures
@@ -27,7 +27,7 @@ loop-i-preserved g c =
 
 pub returns : goal.returns
 returns g c =
-    let K = g.Amount.Amount.kind in
+    let K = g.M.Amount.Amount.kind in
     let cells = cell_in (grid_of c.args.self.now) in
-    two_end K g.met.Amount.Amount.lawful (λ a k. crossing K g.M.Measure.priced (cells a c.args.v) (cells k c.args.u))
+    two_end K g.met.M.Amount.Amount.lawful (λ a k. crossing K g.M.Measure.priced (cells a c.args.v) (cells k c.args.u))
     c.args.left.now c.loop-i.i c.loop-i.sum c.loop-i-test.false c.loop-i.invariant

@@ -12,20 +12,20 @@ with_later_right-requires g c =
 
 pub loop-i-init : goal.loop-i-init
 loop-i-init g c =
-    let K = g.Amount.Amount.kind in
-    start K g.met.Amount.Amount.lawful (over_two K (between K g.M.Measure.priced (cell_in (grid_of c.args.self.now)) c.args.left.now))
+    let K = g.M.Amount.Amount.kind in
+    start K g.met.M.Amount.Amount.lawful (over_two K (between K g.M.Measure.priced (cell_in (grid_of c.args.self.now)) c.args.left.now))
     c.args.right.now c.nothing-sum.result c.nothing-sum.ensures
 
 pub loop-i-preserved : goal.loop-i-preserved
 loop-i-preserved g c =
-    let K = g.Amount.Amount.kind in
-    two_turn K g.met.Amount.Amount.lawful (between K g.M.Measure.priced (cell_in (grid_of c.args.self.now)) c.args.left.now)
+    let K = g.M.Amount.Amount.kind in
+    two_turn K g.met.M.Amount.Amount.lawful (between K g.M.Measure.priced (cell_in (grid_of c.args.self.now)) c.args.left.now)
     c.args.right.now c.loop-i.i c.loop-i.sum c.joined-sum.result c.with_later_right.result c.loop-i-test.true c.joined-sum.ensures
     (c.with_later_right.ensures ∙ ap (over_each K (between K g.M.Measure.priced (cell_in (grid_of c.args.self.now)) c.args.left.now (get_or c.args.right.now c.loop-i.i 0))) c.behind.ensures)
     c.loop-i.invariant
 
 pub returns : goal.returns
 returns g c =
-    let K = g.Amount.Amount.kind in
-    two_end K g.met.Amount.Amount.lawful (between K g.M.Measure.priced (cell_in (grid_of c.args.self.now)) c.args.left.now)
+    let K = g.M.Amount.Amount.kind in
+    two_end K g.met.M.Amount.Amount.lawful (between K g.M.Measure.priced (cell_in (grid_of c.args.self.now)) c.args.left.now)
     c.args.right.now c.loop-i.i c.loop-i.sum c.loop-i-test.false c.loop-i.invariant

@@ -5,5 +5,5 @@ use Rattle.designs.proofs.design.Design.price_of_rows.Given as goal
 
 abbrev pub invariant-loop-i : goal.invariant-loop-i
 invariant-loop-i g l =
-    let K = g.Amount.Amount.kind in
+    let K = g.M.Amount.Amount.kind in
     Stays K (over_two K (between K g.M.Measure.priced (cell_in (grid_of l.self)) l.left)) l.right l.i l.sum

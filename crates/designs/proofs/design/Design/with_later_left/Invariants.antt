@@ -6,5 +6,5 @@ use Rattle.designs.proofs.design.Design.with_later_left.Given as goal
 
 abbrev pub invariant-loop-c : goal.invariant-loop-c
 invariant-loop-c g l =
-    let K = g.Amount.Amount.kind in
+    let K = g.M.Amount.Amount.kind in
     Stays K (over_each K (λ c. crossing K g.M.Measure.priced l.cell (cell_in (grid_of l.self) c l.u))) l.later l.c-index l.sum

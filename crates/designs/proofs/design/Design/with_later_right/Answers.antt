@@ -10,19 +10,19 @@ price_between-requires g c = (c.requires.0, (c.requires.1.0, All-get_or (λ a. a
 
 pub loop-v-init : goal.loop-v-init
 loop-v-init g c =
-    let K = g.Amount.Amount.kind in
-    start K g.met.Amount.Amount.lawful (over_each K (between K g.M.Measure.priced (cell_in (grid_of c.args.self.now)) c.args.left.now c.args.u))
+    let K = g.M.Amount.Amount.kind in
+    start K g.met.M.Amount.Amount.lawful (over_each K (between K g.M.Measure.priced (cell_in (grid_of c.args.self.now)) c.args.left.now c.args.u))
     c.args.later.now c.nothing-sum.result c.nothing-sum.ensures
 
 pub loop-v-preserved : goal.loop-v-preserved
 loop-v-preserved g c =
-    let K = g.Amount.Amount.kind in
-    each_turn K g.met.Amount.Amount.lawful (between K g.M.Measure.priced (cell_in (grid_of c.args.self.now)) c.args.left.now c.args.u)
+    let K = g.M.Amount.Amount.kind in
+    each_turn K g.met.M.Amount.Amount.lawful (between K g.M.Measure.priced (cell_in (grid_of c.args.self.now)) c.args.left.now c.args.u)
     c.args.later.now c.loop-v.v-index c.loop-v.sum c.joined-sum.result c.price_between.result c.loop-v-test.true c.joined-sum.ensures
     c.price_between.ensures c.loop-v.invariant
 
 pub returns : goal.returns
 returns g c =
-    let K = g.Amount.Amount.kind in
-    each_end K g.met.Amount.Amount.lawful (between K g.M.Measure.priced (cell_in (grid_of c.args.self.now)) c.args.left.now c.args.u)
+    let K = g.M.Amount.Amount.kind in
+    each_end K g.met.M.Amount.Amount.lawful (between K g.M.Measure.priced (cell_in (grid_of c.args.self.now)) c.args.left.now c.args.u)
     c.args.later.now c.loop-v.v-index c.loop-v.sum c.loop-v-test.false c.loop-v.invariant

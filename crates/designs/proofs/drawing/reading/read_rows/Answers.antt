@@ -18,9 +18,9 @@ refused bs n m e l r = let s = second bs e in cc
 both : (bs : List ℕ) (n m : ℕ) (x y : Row) → length bs ≡ 48 → (is_row n (take 24 bs) ≡ true) × (x.size ≡ n) × (x.switches ≡ take 24 bs) → (is_row m (take 24 (drop 24 bs)) ≡ true) × (y.size ≡ m) × (y.switches ≡ take 24 (drop 24 bs)) → Ok (record { left = row_of x; right = row_of y }) ≡ rows_in n m bs
 both bs n m x y e l r = let s = second bs e in cc
 
-pub returns-in-default-read : goal.returns-in-default-read
-returns-in-default-read c =
-    refused c.args.bytes.now c.args.lefts c.args.rights c.requires.1.1 c.in-Some.ensures.value.0 c.in-default-read.ensures.value
+pub returns-in_default-read : goal.returns-in_default-read
+returns-in_default-read c =
+    refused c.args.bytes.now c.args.lefts c.args.rights c.requires.1.1 c.in-Some.ensures.value.0 c.in_default-read.ensures.value
 
 pub returns : goal.returns
 returns c =

@@ -27,25 +27,25 @@ both true true xs ys us vs e f = cc
 both true false xs ys us vs e f = cc
 both false b xs ys us vs e f = cc
 
-pub returns-in-err-left : goal.returns-in-err-left
-returns-in-err-left c =
+pub returns-in_err-left : goal.returns-in_err-left
+returns-in_err-left c =
     let xs = c.args.left.now in
     let ys = c.args.right.now in
     let n = c.args.lefts in
     let m = c.args.rights in
     record {
-      value = ap (on_some rows_of) c.from_residual.ensures ∙ no_left (is_order n xs) (is_order m ys) xs ys c.in-err-left.ensures;
+      value = ap (on_some rows_of) c.from_residual.ensures ∙ no_left (is_order n xs) (is_order m ys) xs ys c.in_err-left.ensures;
       meaning = (decides_order n xs, decides_order m ys);
     }
 
-pub returns-in-err-right : goal.returns-in-err-right
-returns-in-err-right c =
+pub returns-in_err-right : goal.returns-in_err-right
+returns-in_err-right c =
     let xs = c.args.left.now in
     let ys = c.args.right.now in
     let n = c.args.lefts in
     let m = c.args.rights in
     record {
-      value = ap (on_some rows_of) c.from_residual-in-err-right.ensures ∙ no_right (is_order n xs) (is_order m ys) xs ys c.in-err-right.ensures;
+      value = ap (on_some rows_of) c.from_residual-in_err-right.ensures ∙ no_right (is_order n xs) (is_order m ys) xs ys c.in_err-right.ensures;
       meaning = (decides_order n xs, decides_order m ys);
     }
 
@@ -56,6 +56,6 @@ returns c =
     let n = c.args.lefts in
     let m = c.args.rights in
     record {
-      value = both (is_order n xs) (is_order m ys) xs ys _ _ c.in-ok-left.ensures c.in-ok-right.ensures;
+      value = both (is_order n xs) (is_order m ys) xs ys _ _ c.in_ok-left.ensures c.in_ok-right.ensures;
       meaning = (decides_order n xs, decides_order m ys);
     }

@@ -12,13 +12,13 @@ loop-k-preserved c =
     let k = c.loop-k.k in
     ap (λ s. set s k k) c.loop-k.invariant ∙ number_order_more k 24 (omega arith)
 
-pub invariant-of-result : goal.invariant-of-result
-invariant-of-result c =
+pub invariant_of-result : goal.invariant_of-result
+invariant_of-result c =
     let n = c.args.size in
     let s = c.loop-k.switches in
     let e = at_end s c.loop-k.k n c.loop-k.auto.k-end c.loop-k-test.false c.loop-k.invariant in
     let r : RowBytes n s = rw e (number_order_row n c.requires.1) in
-    (c.requires, (r.0, (r.1.1, (r.2, (row_below n s r, tt)))))
+    record { sized = c.requires; whole = r.0; once = r.1.1; filled = r.2; below = row_below n s r }
 
 pub returns : goal.returns
 returns c =

@@ -32,14 +32,14 @@ passed : (n : ℕ) (bs : List ℕ) → n ≤ length bs → true ≡ each_once (l
 passed n bs l e f =
     and_from (each_once n (take n bs)) (all_255 (drop n bs)) (sym (e ∙ first_part n bs l)) (sym (f ∙ rest_part n bs))
 
-pub invariant-of-result : goal.invariant-of-result
-invariant-of-result c =
+pub invariant_of-result : goal.invariant_of-result
+invariant_of-result c =
     let n = c.args.size in
     let bs = c.args.bytes.now in
     let s = c.copy_from_slice.new.self in
     let yes = passed n bs (omega arith) c.if-not-names_each_once.ensures c.if-not-is_filler.ensures in
     let r : RowBytes n s = rw c.copy_from_slice.ensures.after ((decides_row n bs c.requires.0.1 c.requires.1).0 yes) in
-    (c.requires.0, (r.0, (r.1.1, (r.2, (row_below n s r, tt)))))
+    record { sized = c.requires.0; whole = r.0; once = r.1.1; filled = r.2; below = row_below n s r }
 
 pub returns : goal.returns
 returns c =

@@ -29,8 +29,8 @@ module _ (n : Node) (v : ℕ) (l : v < 24) (none : times v (partial_of n).prefix
 pub bounds-child-child : goal.bounds-child-child
 bounds-child-child c = fits c.args.self.now c.args.v c.requires.0 c.requires.1
 
-pub invariant-of-child : goal.invariant-of-child
-invariant-of-child c =
+pub invariant_of-child : goal.invariant_of-child
+invariant_of-child c =
     let n = c.args.self.now in
     let v = c.args.v in
     let few = fits n v c.requires.0 c.requires.1 in (

@@ -12,12 +12,12 @@ split_at-requires c =
     let p = partial_of c.args.self.now in
     parts_short c.switches.result.now p.prefix (unplaced (grid_of c.args.design.now) p) (length c.prefix.result.now) (c.switches.ensures.list ∙ c.of-all.ensures) (ap length c.prefix.ensures.list)
 
-pub returns-in-default : goal.returns-in-default
-returns-in-default c =
+pub returns-in_default : goal.returns-in_default
+returns-in_default c =
     let p = partial_of c.args.self.now in
     let us = unplaced (grid_of c.args.design.now) p in
     let back = c.split_at.ensures.back ∙ parts_back c.switches.result.now p.prefix us (length c.prefix.result.now) (c.switches.ensures.list ∙ c.of-all.ensures) (ap length c.prefix.ensures.list) in
-    omega (arith, ap length back, ltb-false c.args.at (length c.split_at.result.1.now) (sym c.in-default.ensures.lookup.0))
+    omega (arith, ap length back, ltb-false c.args.at (length c.split_at.result.1.now) (sym c.in_default.ensures.lookup.0))
 
 pub returns : goal.returns
 returns c =

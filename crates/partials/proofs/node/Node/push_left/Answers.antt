@@ -4,8 +4,8 @@ use Rattle.designs.proofs.Linked.{set_keeps}
 use Rattle.partials.proofs.Fronts.{same_partial}
 use Rattle.partials.proofs.node.Node.push_left.Goals as goal
 
-pub invariant-of-self : goal.invariant-of-self
-invariant-of-self c =
+pub invariant_of-self : goal.invariant_of-self
+invariant_of-self c =
     let n = c.args.self.now in (
       (omega (arith, c.requires.0), n.few.1),
       (

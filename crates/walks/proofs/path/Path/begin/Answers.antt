@@ -5,8 +5,8 @@ use Rattle.walks.proofs.OnPaths.{begun_open, begun_closed, begun_lawful}
 use Rattle.walks.proofs.path.Path.begin.Goals as goal
 use Rattle.walks.proofs.path.Path.begin.Goals.{then-waiting, else-waiting}
 
-pub invariant-of-result : goal.invariant-of-result
-invariant-of-result g c = (
+pub invariant_of-result : goal.invariant_of-result
+invariant_of-result g c = (
   refl,
   (
     elim c.if-waiting.branch [ then-waiting w ↦ omega (arith, w.result-is) | else-waiting w ↦ omega (arith, w.result-is) ],

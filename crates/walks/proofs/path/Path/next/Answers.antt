@@ -5,8 +5,8 @@ use Rattle.partials.specs.Nodes.{partial_of}
 use Rattle.walks.proofs.OnPaths.{back_frontier, back_lawful, taken_lawful, taken_deep, taken_frontier}
 use Rattle.walks.proofs.path.Path.next.Goals as goal
 
-pub invariant-of-self : goal.invariant-of-self
-invariant-of-self g c =
+pub invariant_of-self : goal.invariant_of-self
+invariant_of-self g c =
     let s = c.loop-self.self in
     let x = get_or s.levels (s.depth - 1) c.index-self-at.result in
     let is = get_or_default s.levels (s.depth - 1) c.index-self-at.result x (omega (arith, s.whole, s.deep, c.loop-self-test.true)) in (
@@ -19,12 +19,12 @@ loop-self-preserved g c =
     let s = c.loop-self.self in
     let x = get_or s.levels (s.depth - 1) c.index-self-at.result in
     let is = get_or_default s.levels (s.depth - 1) c.index-self-at.result x (omega (arith, s.whole, s.deep, c.loop-self-test.true)) in (
-      back_frontier (grid_of s.design) s.levels s.depth c.loop-self-test.true (omega (arith, s.whole, s.deep)) x is c.in-default.ensures.child ∙ c.loop-self.invariant.0,
+      back_frontier (grid_of s.design) s.levels s.depth c.loop-self-test.true (omega (arith, s.whole, s.deep)) x is c.in_default.ensures.child ∙ c.loop-self.invariant.0,
       c.loop-self.invariant.1,
     )
 
-pub invariant-of-self-in-loop-self : goal.invariant-of-self-in-loop-self
-invariant-of-self-in-loop-self g c =
+pub invariant_of-self-in-loop-self : goal.invariant_of-self-in-loop-self
+invariant_of-self-in-loop-self g c =
     let s = c.loop-self.self in
     let x = get_or s.levels (s.depth - 1) c.index-self-at.result in
     let is = get_or_default s.levels (s.depth - 1) c.index-self-at.result x (omega (arith, s.whole, s.deep, c.loop-self-test.true)) in (

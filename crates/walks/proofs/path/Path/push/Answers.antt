@@ -4,8 +4,8 @@ use Rattle.designs.specs.Grids.{grid_of}
 use Rattle.walks.proofs.OnPaths.{frontier_more, lawful_more}
 use Rattle.walks.proofs.path.Path.push.Goals as goal
 
-pub invariant-of-self : goal.invariant-of-self
-invariant-of-self g c =
+pub invariant_of-self : goal.invariant_of-self
+invariant_of-self g c =
     let s = c.args.self.now in (
       length-set s.levels s.depth _ ∙ s.whole,
       (omega (arith, c.requires.0), (∥∥₁_map₂ c.requires.1 s.lawful (λ d p. lawful_more (grid_of s.design) s.levels s.depth _ (omega (arith, s.whole, c.requires.0)) d p), tt)),

@@ -7,7 +7,7 @@ use Rattle.walks.proofs.walk.Search.report_with.Goals as goal
 
 pub returns : goal.returns
 returns g c =
-    let K = g.Amount.Amount.kind in
+    let K = g.M.Amount.Amount.kind in
     let s = c.args.self.now in
     let G = grid_in s in
     let is : Reports K G (walk_of s) _ = record {
@@ -21,5 +21,5 @@ returns g c =
     record {
       values = is;
       truth = λ answered root bounds below. report_true K g.M.Measure.priced G root (walk_of s) _ is
-          (reached_truthful K g.met.Amount.Amount.lawful G (cost_of K g.M.Measure.priced G) (answered G) (bounds G) root (walk_of s) below);
+          (reached_truthful K g.met.M.Amount.Amount.lawful G (cost_of K g.M.Measure.priced G) (answered G) (bounds G) root (walk_of s) below);
     }

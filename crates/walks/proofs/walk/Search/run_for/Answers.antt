@@ -8,7 +8,7 @@ use Rattle.walks.proofs.walk.Search.run_for.Goals as goal
 
 pub stepping-preserved : goal.stepping-preserved
 stepping-preserved g c =
-    let K = g.Amount.Amount.kind in
+    let K = g.M.Amount.Amount.kind in
     let cost = cost_of K g.M.Measure.priced in
     let answer = g.R.BoundingRule.answered c.args.rule.now in
     let grid = grid_in c.args.self.now in
@@ -19,13 +19,13 @@ stepping-preserved g c =
       ap (run K grid (cost grid) (answer grid) (c.args.nodes - (c.stepping.opened + 1))) step
           ∙ (sym (run_on K grid (cost grid) (answer grid) c.args.nodes c.stepping.opened w (omega (arith, i.1, c.if-opened-nodes.false)) more) ∙ i.0),
       omega (arith, i.1, c.if-opened-nodes.false),
-      omega (arith, i.2, ap (λ v. v.opened) step, opens_one K g.met.Amount.Amount.lawful grid (cost grid) (answer grid) w.incumbent w.least w.opened w.frontier more),
+      omega (arith, i.2, ap (λ v. v.opened) step, opens_one K g.met.M.Amount.Amount.lawful grid (cost grid) (answer grid) w.incumbent w.least w.opened w.frontier more),
       c.open_one.ensures.design ∙ i.3,
     )
 
 pub returns-then-is_done : goal.returns-then-is_done
 returns-then-is_done g c =
-    let K = g.Amount.Amount.kind in
+    let K = g.M.Amount.Amount.kind in
     let grid = grid_in c.args.self.now in
     let w = walk_of c.stepping.self in
     let i = c.stepping.invariant in

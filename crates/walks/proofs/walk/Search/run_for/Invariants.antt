@@ -6,7 +6,7 @@ use Rattle.walks.proofs.walk.Search.run_for.Given as goal
 
 abbrev pub invariant-stepping : goal.invariant-stepping
 invariant-stepping g l =
-    let K = g.Amount.Amount.kind in
+    let K = g.M.Amount.Amount.kind in
     let grid = grid_in l.initial.self in
     let go = run K grid (cost_of K g.M.Measure.priced grid) (g.R.BoundingRule.answered l.rule grid) in
     (go (l.nodes - l.opened) (walk_of l.self) ≡ go l.nodes (walk_of l.initial.self)) × (l.opened ≤ l.nodes) × (l.self.opened ≡ l.initial.self.opened + l.opened) × (l.self.path.design ≡ l.initial.self.path.design)

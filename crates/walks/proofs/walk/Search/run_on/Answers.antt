@@ -10,8 +10,8 @@ use Rattle.walks.proofs.walk.Search.run_on.Goals as goal
 
 pub returns : goal.returns
 returns g c =
-    let K = g.Amount.Amount.kind in
-    let laws = g.met.Amount.Amount.lawful in
+    let K = g.M.Amount.Amount.kind in
+    let laws = g.met.M.Amount.Amount.lawful in
     let priced = g.M.Measure.priced in
     let answered = g.R.BoundingRule.answered c.args.rule.now in
     let bounds = g.met.R.BoundingRule.bounds c.args.rule.now in

@@ -12,7 +12,7 @@ use Rattle.walks.proofs.walk.Search.start_with.Goals as goal
 
 pub returns : goal.returns
 returns g c =
-    let K = g.Amount.Amount.kind in
+    let K = g.M.Amount.Amount.kind in
     let priced = g.M.Measure.priced in
     let answered = g.R.BoundingRule.answered c.args.rule.now in
     let d = c.args.design in

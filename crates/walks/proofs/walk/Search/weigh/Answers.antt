@@ -9,7 +9,7 @@ use Rattle.walks.proofs.walk.Search.weigh.Goals as goal
 
 pub returns : goal.returns
 returns g c =
-    let K = g.Amount.Amount.kind in
+    let K = g.M.Amount.Amount.kind in
     let priced = g.M.Measure.priced in
     let s = c.args.self.now in
     let G = grid_in s in
@@ -24,6 +24,6 @@ returns g c =
         cost = done.cost;
         taken = done.taken;
         below = λ answered root d in-root r. reached_same K priced answered root s.path.design c.take_better.new.self.path.design (offer K (cost_of K priced G) x w) v done.design done.walk (offers w x r d in-root);
-        steady = λ answered root bounds d in-root r. subst (Steady K w) (sym done.walk) (offer_steady K g.met.Amount.Amount.lawful G (cost_of K priced G) (answered G) (bounds G) root w x r d in-root);
+        steady = λ answered root bounds d in-root r. subst (Steady K w) (sym done.walk) (offer_steady K g.met.M.Amount.Amount.lawful G (cost_of K priced G) (answered G) (bounds G) root w x r d in-root);
       };
     }
