@@ -5,7 +5,7 @@ use mathlib.Core.List.{map-map}
 use Rattle.std.specs.List.{flat_map}
 use Rattle.measures.specs.Amounts.{Kind, Lawful}
 use Rattle.measures.specs.declared.link.Link.{Link}
-use Rattle.designs.specs.Cells.{link_in, crossing}
+use Rattle.designs.specs.Cells.{link_in}
 use Rattle.designs.specs.Crossings.{Ends, pairs, meetings, linked_both}
 use Rattle.designs.specs.Costs.{total, over_each, over_two, pair_price, between, CostByRightPairs}
 use Rattle.designs.specs.declared.cell.Cell.{Cell}

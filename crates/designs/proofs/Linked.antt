@@ -1,11 +1,11 @@
 -- What a link does to the cells.
-use Rattle.std.proofs.Common.{◌≡◌, ℕ, ◌+◌, ◌-◌, ◌*◌, ◌<◌, ◌≤◌, Bool, true, false, cond, ◌||◌, eqb, ltb, leb, ◌⊎◌, List, length, get_or, set, sym, refl, ap, ◌∙◌, subst, inl, inr, ⊎_elim, arith}
+use Rattle.std.proofs.Common.{◌≡◌, ℕ, ◌+◌, ◌<◌, ◌≤◌, false, ◌||◌, List, length, get_or, set, sym, refl, ap, ◌∙◌, subst, ⊎_elim, arith}
 use Rattle.std.proofs.lemmas.List.{get_or-set_same, get_or-set_other}
 use Rattle.std.proofs.lemmas.Bool.{cases_eq}
 use Rattle.measures.specs.Prices.{is_trunk}
 use Rattle.measures.specs.declared.link.Class.{Class}
 use Rattle.measures.specs.declared.link.Class.TheVariants.{Ordinary, Trunk}
-use Rattle.designs.specs.Cells.{index, cell_at}
+use Rattle.designs.specs.Cells.{index}
 use Rattle.designs.specs.Grids.{Grid, cell_in, either_class, with_link, LinkAdded}
 
 -- what holds of every member and of the new one holds after a write

@@ -1,7 +1,6 @@
 -- Cells, and what a crossing of two cells costs.
 use Rattle.std.specs.Prelude.{ℕ, ◌+◌, ◌*◌, Bool, cond, not, ◌||◌, ◌==◌, slice_index, slice_index_or}
 use Rattle.measures.specs.Amounts.{Kind}
-use Rattle.measures.specs.declared.link.Class.{Class}
 use Rattle.measures.specs.declared.link.Class.TheVariants.{Ordinary}
 use Rattle.measures.specs.declared.link.Link.{Link}
 use Rattle.designs.specs.declared.cell.Cell.{Cell}

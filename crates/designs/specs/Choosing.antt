@@ -1,5 +1,5 @@
 -- Choosing between two parts, and comparing two amounts.
-use Rattle.std.specs.Prelude.{ℕ, Bool, cond, List, length, Ok, Err, Result, ◌==◌}
+use Rattle.std.specs.Prelude.{ℕ, cond, List, length, Ok, Err, Result, ◌==◌}
 use Rattle.measures.specs.Amounts.{Kind}
 use Rattle.designs.specs.Faults.{row_number}
 use Rattle.designs.specs.Grids.{Grid}

@@ -1,9 +1,8 @@
 -- Designs as values: two sizes and the cells, and what a link does.
-use Rattle.std.specs.Prelude.{◌≡◌, ℕ, ◌+◌, ◌<◌, Bool, true, cond, ◌&&◌, ◌||◌, replicate, Some, None, Ok, Err, Option, Result, ◌==◌, nat_le, nat_lt, slice_set}
+use Rattle.std.specs.Prelude.{◌≡◌, ℕ, ◌+◌, ◌<◌, Bool, cond, ◌&&◌, ◌||◌, replicate, Some, None, Ok, Err, Option, Result, ◌==◌, nat_le, nat_lt, slice_set}
 use Rattle.measures.specs.Prices.{is_trunk}
 use Rattle.measures.specs.declared.link.Class.{Class}
 use Rattle.measures.specs.declared.link.Class.TheVariants.{Ordinary, Trunk}
-use Rattle.measures.specs.declared.link.Link.{Link}
 use Rattle.designs.specs.Cells.{index, cell_at}
 use Rattle.designs.specs.declared.cell.Cell.{Cell}
 use Rattle.designs.specs.declared.cell.Cells.{Cells}

@@ -1,5 +1,5 @@
 -- Drawings as values: two lists of switches, and how they are read from 48 bytes.
-use Rattle.std.specs.Prelude.{ℕ, Bool, cond, ◌&&◌, eqb, List, length, take, drop, Some, None, Ok, Err, Option, Result}
+use Rattle.std.specs.Prelude.{ℕ, cond, ◌&&◌, List, take, drop, Some, None, Ok, Err, Option, Result}
 use Rattle.measures.specs.Amounts.{Kind}
 use Rattle.measures.specs.declared.link.Link.{Link}
 use Rattle.designs.specs.Costs.{cost}

@@ -1,8 +1,6 @@
 -- The number, the layer and the place of each refusal.
 use Rattle.std.specs.Prelude.{ℕ, Ok, Err, Result}
 use Rattle.designs.specs.Faults.{design_number, row_number}
-use Rattle.designs.specs.declared.fault.DesignFault.{DesignFault}
-use Rattle.designs.specs.declared.fault.RowFault.{RowFault}
 use Rattle.designs.specs.declared.fault.Layer.{Layer}
 use Rattle.designs.specs.declared.fault.Layer.TheVariants.{Script, Setup, Design, Search}
 use Rattle.scripts.specs.declared.fault.Placed.{Placed}

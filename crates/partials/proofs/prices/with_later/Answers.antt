@@ -34,7 +34,7 @@ loop-c-preserved g c =
       each_turn K laws (λ k. crossing K priced c.cell-to_v.result (cells k c.args.u)) later i c.loop-c.uv c.joined-uv.result c.crossing_price.result lt c.joined-uv.ensures
           (c.crossing_price.ensures ∙ ap (crossing K priced c.cell-to_v.result) c.cell.ensures) c.loop-c.invariant.0,
       each_turn K laws (λ k. crossing K priced c.cell-to_u.result (cells k c.args.v)) later i c.loop-c.vu c.joined-vu.result c.crossing_price-in-loop-c.result lt c.joined-vu.ensures
-          (c.crossing_price-in-loop-c.ensures ∙ ap (crossing K priced c.cell-to_u.result) c.cell_in-loop-c.ensures) c.loop-c.invariant.1,
+          (c.crossing_price-in-loop-c.ensures ∙ ap (crossing K priced c.cell-to_u.result) c.cell-in-loop-c.ensures) c.loop-c.invariant.1,
     )
 
 pub returns : goal.returns

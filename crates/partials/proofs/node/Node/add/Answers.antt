@@ -33,19 +33,7 @@ pub invariant_of-child : goal.invariant_of-child
 invariant_of-child c =
     let n = c.args.self.now in
     let v = c.args.v in
-    let few = fits n v c.requires.0 c.requires.1 in (
-      (n.few.0, omega (arith, few)),
-      (
-        (n.whole.0, length-set n.right n.begun v ∙ n.whole.1),
-        (
-          n.lefts,
-          (
-            set_keeps (λ _ x. x < 24) n.right n.begun v 0 (omega (arith, n.whole.1, few)) n.rights c.requires.0,
-            (λ u. subst (λ ys. times u ys ≤ 1) (sym (added n v c.requires.0 c.requires.1)) (still_once n v c.requires.0 c.requires.1 u), tt),
-          ),
-        ),
-      ),
-    )
+    let few = fits n v c.requires.0 c.requires.1 in record { few = (n.few.0, omega (arith, few)); whole = (n.whole.0, length-set n.right n.begun v ∙ n.whole.1); lefts = n.lefts; rights = set_keeps (λ _ x. x < 24) n.right n.begun v 0 (omega (arith, n.whole.1, few)) n.rights c.requires.0; once = (λ u. subst (λ ys. times u ys ≤ 1) (sym (added n v c.requires.0 c.requires.1)) (still_once n v c.requires.0 c.requires.1 u)) }
 
 pub returns : goal.returns
 returns c = same_partial _ _ refl (added c.args.self.now c.args.v c.requires.0 c.requires.1)

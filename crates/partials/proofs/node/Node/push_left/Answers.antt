@@ -6,13 +6,7 @@ use Rattle.partials.proofs.node.Node.push_left.Goals as goal
 
 pub invariant_of-self : goal.invariant_of-self
 invariant_of-self c =
-    let n = c.args.self.now in (
-      (omega (arith, c.requires.0), n.few.1),
-      (
-        (length-set n.left n.placed c.args.a ∙ n.whole.0, n.whole.1),
-        (set_keeps (λ _ x. x < 24) n.left n.placed c.args.a 0 (omega (arith, n.whole.0, c.requires.0)) n.lefts c.requires.1, (n.rights, (n.once, tt))),
-      ),
-    )
+    let n = c.args.self.now in record { few = (omega (arith, c.requires.0), n.few.1); whole = (length-set n.left n.placed c.args.a ∙ n.whole.0, n.whole.1); lefts = set_keeps (λ _ x. x < 24) n.left n.placed c.args.a 0 (omega (arith, n.whole.0, c.requires.0)) n.lefts c.requires.1; rights = n.rights; once = n.once }
 
 pub returns : goal.returns
 returns c =

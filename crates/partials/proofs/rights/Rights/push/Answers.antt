@@ -5,13 +5,7 @@ use Rattle.partials.proofs.rights.Rights.push.Goals as goal
 
 pub invariant_of-self : goal.invariant_of-self
 invariant_of-self c =
-    let r = c.args.self.now in (
-      omega (arith, c.requires.0),
-      (
-        length-set r.switches r.count c.args.switch ∙ r.whole,
-        (set_keeps (λ _ x. x < 24) r.switches r.count c.args.switch 0 (omega (arith, r.whole, c.requires.0)) r.below c.requires.1, tt),
-      ),
-    )
+    let r = c.args.self.now in record { few = omega (arith, c.requires.0); whole = length-set r.switches r.count c.args.switch ∙ r.whole; below = set_keeps (λ _ x. x < 24) r.switches r.count c.args.switch 0 (omega (arith, r.whole, c.requires.0)) r.below c.requires.1 }
 
 pub returns : goal.returns
 returns c =
