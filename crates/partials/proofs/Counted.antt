@@ -1,17 +1,16 @@
 -- How many nodes are below a partial drawing.
-use Rattle.std.proofs.Common.{◌≡◌, ℕ, zero, suc, ◌+◌, ◌-◌, ◌*◌, ◌<◌, ◌≤◌, Bool, true, false, cond, eqb, ltb, ◌⊎◌, List, [], ◌∷◌, ◌++◌, length, sym, refl, ap, ◌∙◌, subst, inl, inr, ⊎_elim, suc-mul, zero-mul, arith, length-append}
+use Rattle.std.proofs.Common.{◌≡◌, ℕ, zero, suc, ◌+◌, ◌*◌, ◌<◌, ◌≤◌, ltb, List, [], ◌∷◌, ◌++◌, length, sym, refl, ap, ◌∙◌, ⊎_elim, suc-mul, zero-mul, arith, length-append}
 use Rattle.std.specs.List.{AllByRecursion as All}
 use Rattle.std.proofs.lemmas.List.{length_push, nil_from_length}
 use Rattle.std.proofs.ByRecursion.{All-append, All-weaker}
-use Rattle.std.proofs.lemmas.Bool.{cond_both, cond-true, cond-false, cases_lt, cases_eq, lt-ltb, le-ltb}
+use Rattle.std.proofs.lemmas.Bool.{cond-true, cond-false, cases_eq, lt-ltb, le-ltb}
 use Rattle.designs.specs.Grids.{Grid}
-use Rattle.designs.specs.Readings.{TwoRows}
 use Rattle.designs.specs.Rows.{times}
 use Rattle.designs.proofs.Orders.{length_from_once}
 use Rattle.partials.specs.Partials.{Partial, PartialOf, unplaced}
 use Rattle.partials.specs.Sizes.{right_size, left_size, tree_size}
-use Rattle.partials.specs.Tree.{placings, addings, children, is_whole, drawn, height, nodes_under, nodes_to, nodes_below}
-use Rattle.partials.specs.Children.{Free, put, add, put_valid, add_valid, length-put, times-append, free_below, free_named, none_unplaced, all_free, all_children}
+use Rattle.partials.specs.Tree.{placings, addings, children, height, nodes_under, nodes_to, nodes_below}
+use Rattle.partials.specs.Children.{put, add, put_valid, add_valid, length-put, times-append, free_below, free_named, none_unplaced, all_children}
 
 -- prefix and unplaced switches are all right switches
 pub prefix_and_unplaced : (g : Grid) (p : Partial) → All (λ v. v < g.rights) p.prefix → ((v : ℕ) → times v p.prefix ≤ 1) → length p.prefix + length (unplaced g p) ≡ g.rights

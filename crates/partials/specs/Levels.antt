@@ -1,7 +1,6 @@
 -- The greater, the lesser and the least of amounts. Nothing here asks that amounts at most each other are equal.
-use Rattle.std.specs.Prelude.{◌≡◌, Bool, true, false, cond, ◌⊎◌, List, [], ◌∷◌}
-use Rattle.std.proofs.Common.{inl, inr, ⊎_elim}
-use Rattle.std.specs.List.{AllByRecursion as All}
+use Rattle.std.specs.Prelude.{◌≡◌, false}
+use Rattle.std.proofs.Common.{⊎_elim}
 use Rattle.std.proofs.lemmas.Bool.{cond_both, both_ways}
 use Rattle.measures.specs.Amounts.{Kind, Lawful, AtMost}
 use Rattle.partials.specs.Rules.{lesser, greater}

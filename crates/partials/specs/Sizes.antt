@@ -1,5 +1,5 @@
 -- The size of the tree by its formula.
-use Rattle.std.specs.Prelude.{ℕ, zero, suc, ◌+◌, ◌-◌, ◌*◌, cond, Some, None, Option, nat_le}
+use Rattle.std.specs.Prelude.{ℕ, zero, suc, ◌+◌, ◌*◌, cond, Some, None, Option, nat_le}
 
 -- B(j): the nodes below a full left row with j right switches unplaced
 abbrev pub right_size : ℕ → ℕ

@@ -1,5 +1,5 @@
 -- The tree of orders: the children of a partial drawing, and how many nodes are below one.
-use Rattle.std.specs.Prelude.{ℕ, zero, suc, ◌+◌, ◌-◌, ◌*◌, Bool, cond, ◌&&◌, List, [], ◌∷◌, ◌++◌, length, take, drop, Some, None, Option, ◌==◌, nat_lt}
+use Rattle.std.specs.Prelude.{ℕ, zero, suc, ◌+◌, ◌-◌, Bool, cond, ◌&&◌, List, [], ◌∷◌, ◌++◌, length, take, drop, Some, None, Option, ◌==◌, nat_lt}
 use Rattle.designs.specs.Grids.{Grid}
 use Rattle.designs.specs.Readings.{TwoRows}
 use Rattle.partials.specs.Partials.{Partial, unplaced}

@@ -1,5 +1,5 @@
 -- The whole session: fresh, or with a measure and a rule, and one call on a line.
-use Rattle.std.specs.Prelude.{ℕ, ◌+◌, Bool, cond, List, [], ◌∷◌, ◌++◌, Some, None, Ok, Err, decimal, Option, Result, ◌==◌, slice_index}
+use Rattle.std.specs.Prelude.{ℕ, ◌+◌, cond, List, [], Some, None, Ok, Err, Option, Result, ◌==◌, slice_index}
 use Rattle.measures.specs.Sums.{sums}
 use Rattle.measures.specs.Pairs.{pairs}
 use Rattle.measures.specs.Prices.{strand_price, trunk_price}

@@ -3,7 +3,7 @@ use Rattle.std.specs.Prelude.{ℕ, Bool, cond, not, List, Ok, Err, Result, ◌==
 use Rattle.measures.specs.Amounts.{Kind}
 use Rattle.measures.specs.declared.link.Class.{Class}
 use Rattle.measures.specs.declared.link.Link.{Link}
-use Rattle.designs.specs.Grids.{Grid, grid_of, sized, link_check, after_link, class_numbered}
+use Rattle.designs.specs.Grids.{Grid, grid_of, sized, link_check, after_link}
 use Rattle.designs.specs.Readings.{TwoRows, rows_of, first_rows, read_rows, cost_of}
 use Rattle.designs.specs.declared.fault.DesignFault.{DesignFault}
 use Rattle.designs.specs.declared.fault.DesignFault.TheVariants.{InLink}

@@ -43,8 +43,8 @@ fn put_refusal(line: &mut [u8], fault: ScriptFault) -> usize
 // Writes what became of an offer.
 fn put_offer<P: PrintingMeasure>(line: &mut [u8], taken: bool, cost: P::Amount) -> usize
     requires { 256 ≤ length line.old }
-    ensures wrote { result ≡ length (field (offer_word taken) 32 ++ field (written cost) 10) }
-    ensures bytes { line.new ≡ written_on line.old (field (offer_word taken) 32 ++ field (written cost) 10) }
+    ensures wrote { result ≡ length (field (offer_word taken) 32 ++ field (P.PrintingMeasure.written cost) 10) }
+    ensures bytes { line.new ≡ written_on line.old (field (offer_word taken) 32 ++ field (P.PrintingMeasure.written cost) 10) }
 {
     let amount = put_field(line, 0, offer_word(taken), b' ');
     let end = P::write(cost, line, amount);
@@ -55,8 +55,8 @@ fn put_offer<P: PrintingMeasure>(line: &mut [u8], taken: bool, cost: P::Amount) 
 // Writes what a command told.
 fn put_telling<P: PrintingMeasure>(line: &mut [u8], telling: &Telling<P>) -> usize
     requires { 256 ≤ length line.old }
-    ensures wrote { result ≡ length (told_line written telling.now) }
-    ensures bytes { line.new ≡ written_on line.old (told_line written telling.now) }
+    ensures wrote { result ≡ length (told_line P.PrintingMeasure.written telling.now) }
+    ensures bytes { line.new ≡ written_on line.old (told_line P.PrintingMeasure.written telling.now) }
 {
     match telling {
         Telling::Sized { .. } => 0,
@@ -82,8 +82,8 @@ pub fn write_answer<P: PrintingMeasure>(
     line: &mut [u8],
     told: &Result<Telling<P>, ScriptFault>,
 ) -> usize
-    ensures wrote { result ≡ length (if_room (length line.old) (answer_line written told.now)) }
-    ensures bytes { line.new ≡ written_on line.old (if_room (length line.old) (answer_line written told.now)) }
+    ensures wrote { result ≡ length (if_room (length line.old) (answer_line P.PrintingMeasure.written told.now)) }
+    ensures bytes { line.new ≡ written_on line.old (if_room (length line.old) (answer_line P.PrintingMeasure.written told.now)) }
 {
     if line.len() < LINE {
         return 0;

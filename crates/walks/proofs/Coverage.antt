@@ -1,8 +1,8 @@
 -- Why the lower bound and 'done' are true: what a search keeps from node to node.
-use Rattle.std.proofs.Common.{◌≡◌, ℕ, zero, suc, ◌+◌, ◌<◌, ◌≤◌, Bool, true, false, cond, ◌⊎◌, List, [], ◌∷◌, ◌++◌, sym, refl, ap, ◌∙◌, subst, inl, inr, ⊎_elim, arith}
+use Rattle.std.proofs.Common.{◌≡◌, ℕ, zero, suc, ◌+◌, true, false, ◌⊎◌, List, [], ◌∷◌, ◌++◌, sym, refl, ◌∙◌, subst, inl, inr, ⊎_elim}
 use Rattle.std.specs.List.{AllByRecursion as All}
-use Rattle.std.proofs.ByRecursion.{All-append, All-weaker}
-use Rattle.std.proofs.lemmas.Bool.{cond_both, cases_Bool, both_ways}
+use Rattle.std.proofs.ByRecursion.{All-append}
+use Rattle.std.proofs.lemmas.Bool.{cond_both, cases_Bool}
 use Rattle.measures.specs.Amounts.{Kind, Lawful, AtMost}
 use Rattle.designs.specs.Grids.{Grid}
 use Rattle.designs.specs.Readings.{TwoRows}
@@ -10,9 +10,8 @@ use Rattle.partials.specs.Partials.{Partial, PartialOf, DrawingOf, Completes}
 use Rattle.partials.specs.Rules.{lesser, greater}
 use Rattle.partials.specs.Tree.{children, is_whole, drawn}
 use Rattle.walks.specs.Reached.{Steady}
-use Rattle.walks.specs.Runs.{Exact}
 use Rattle.walks.specs.Walk.{Open, Walk, all_open, start, take_better, visit, open_first, open_one, least_of, lower_bound, is_done, run, offer}
-use Rattle.partials.specs.Children.{Any, Free, put_valid, put_up, add_valid, add_up, all_children, goes_on, is_drawn, drawn_drawing, drawn_completes}
+use Rattle.partials.specs.Children.{Any, put_valid, put_up, add_valid, add_up, all_children, goes_on, is_drawn, drawn_drawing, drawn_completes}
 use Rattle.partials.specs.Levels.{at_most_itself, at_least, greater_left, greater_under, lesser_left, lesser_right, lesser_over}
 
 any_left : {X : Type 0} (P : X → Type 0) (xs ys : List X) → Any P xs → Any P (xs ++ ys)

@@ -1,5 +1,5 @@
 -- The least bound of the open nodes, level by level.
-use Rattle.std.proofs.Common.{◌≡◌, ℕ, zero, suc, ◌+◌, ◌-◌, ◌<◌, ◌≤◌, Bool, true, false, cond, ltb, List, [], ◌∷◌, ◌++◌, length, get_or, take, drop, sym, refl, ap, ◌∙◌, subst, ⊎_elim, arith, drop_of_length-le}
+use Rattle.std.proofs.Common.{◌≡◌, ℕ, zero, suc, ◌+◌, ◌-◌, ◌<◌, ◌≤◌, ltb, List, [], ◌∷◌, ◌++◌, length, get_or, take, drop, sym, refl, ap, ◌∙◌, ⊎_elim, arith, drop_of_length-le}
 use mathlib.Core.Logic.{∥∥₁_elim}
 use native.Mathlib.Nat.{ℕ_set}
 use Rattle.std.proofs.lemmas.Bool.{cond_both, cases_lt, cond-true, cond-false, lt-ltb, le-ltb}
@@ -10,7 +10,7 @@ use Rattle.partials.specs.Partials.{Partial, PartialOf}
 use Rattle.partials.specs.Rules.{lesser}
 use Rattle.partials.specs.Tree.{children, child_count}
 use Rattle.partials.proofs.Counted.{children_left, children_right}
-use Rattle.walks.specs.Paths.{Deep, OnPath, open_at, open_on}
+use Rattle.walks.specs.Paths.{OnPath, open_at, open_on}
 use Rattle.walks.specs.Walk.{Open, all_open, least_of}
 use Rattle.walks.specs.declared.level.Level.{Level}
 use Rattle.walks.proofs.OnPaths.{top_frontier, deepest, lawful_part}

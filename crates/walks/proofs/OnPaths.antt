@@ -9,7 +9,7 @@ use Rattle.partials.specs.Tree.{children, nth}
 use Rattle.partials.specs.Children.{put_valid, add_valid, all_children, length-put}
 use Rattle.std.proofs.lemmas.List.{length_push, length-take-le, take_more, take_more_set, take-take, take-append-drop}
 use Rattle.walks.specs.Paths.{Deep, OnPath, open_at, open_on}
-use Rattle.walks.specs.Walk.{Open, all_open}
+use Rattle.walks.specs.Walk.{all_open}
 use Rattle.walks.specs.declared.level.Level.{Level}
 
 module _ {A : Type 0} (g : Grid) where

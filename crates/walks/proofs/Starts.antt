@@ -1,11 +1,11 @@
 -- A search at its start.
-use Rattle.std.proofs.Common.{◌≡◌, ℕ, Bool, true, false, cond, not, List, [], sym, refl, ap, ◌∙◌}
+use Rattle.std.proofs.Common.{◌≡◌, Bool, true, false, cond, not, List, [], refl, ap, ◌∙◌}
 use Rattle.measures.specs.Amounts.{Kind}
 use Rattle.designs.specs.Grids.{Grid}
 use Rattle.designs.specs.Readings.{TwoRows}
 use Rattle.partials.specs.Partials.{Partial}
 use Rattle.partials.specs.Tree.{children}
-use Rattle.walks.specs.Walk.{Open, Walk, all_open, start}
+use Rattle.walks.specs.Walk.{Open, all_open, start}
 
 not_cond : {X : Type 0} (b : Bool) (x y : X) → cond (not b) x y ≡ cond b y x
 not_cond true x y = refl

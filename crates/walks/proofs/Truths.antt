@@ -1,6 +1,5 @@
 -- Every search is truthful, and steady from each moment to the next.
-use Rattle.std.proofs.Common.{◌≡◌, ℕ, zero, suc, ◌+◌, ◌<◌, ◌≤◌, Bool, true, false, cond, sym, refl, ap, ◌∙◌, subst, arith}
-use Rattle.std.specs.List.{AllByRecursion as All}
+use Rattle.std.proofs.Common.{◌≡◌, ℕ, zero, suc, ◌≤◌, true, sym, ap, ◌∙◌, subst, arith}
 use Rattle.std.proofs.ByRecursion.{All-weaker}
 use Rattle.std.proofs.lemmas.Bool.{cond_both}
 use Rattle.measures.specs.Amounts.{Kind, Lawful, AtMost}
@@ -14,9 +13,9 @@ use Rattle.walks.specs.Reached.{Reached, Steady, NoneBelow}
 use Rattle.walks.specs.Reached.Reached.{starts, opens, offers}
 use Rattle.walks.specs.Reports.{Reports, TrueReport}
 use Rattle.walks.specs.declared.report.Report.{Report}
-use Rattle.walks.specs.Walk.{Walk, Open, start, open_one, run, offer, lower_bound, is_done}
-use Rattle.walks.proofs.Coverage.{Sound, Sound-open, Step, start_sound, open_one_step, run_step, offer_step, no_drawing_below_the_bound, done_is_least, done_stays}
-use Rattle.walks.proofs.Weights.{weight, reach, start_counted, open_one_counted, offer_counted}
+use Rattle.walks.specs.Walk.{Walk, open_one, run, offer, lower_bound, is_done}
+use Rattle.walks.proofs.Coverage.{Sound, Sound-open, start_sound, open_one_step, run_step, offer_step, no_drawing_below_the_bound, done_is_least}
+use Rattle.walks.proofs.Weights.{reach, start_counted, open_one_counted, offer_counted}
 
 -- what is true of every search below a root
 pub record Truthful {A : Type 0} (K : Kind A) (g : Grid) (cost : TwoRows → A) (root : Partial) (w : Walk A) : Type 0 where

@@ -2,6 +2,8 @@
 use Rattle.std.specs.Prelude.{◌≡◌, ℕ, ◌+◌, not}
 use Rattle.measures.specs.Amounts.{Kind}
 use Rattle.measures.specs.declared.link.Link.{Link}
+use Rattle.measures.specs.declared.measure.Measure.{Ghosts as MeasureGhosts}
+use Rattle.measures.specs.declared.amount.Amount.{Ghosts as AmountGhosts}
 use Rattle.designs.specs.Grids.{Grid}
 use Rattle.designs.specs.Readings.{TwoRows, cost_of}
 use Rattle.partials.specs.Partials.{Partial, DrawingOf, Completes}
@@ -13,13 +15,13 @@ use Rattle.walks.specs.declared.offered.Offered.{Offered}
 use Rattle.walks.specs.declared.walk.Search.{Search}
 
 -- a new walk of a design by a rule with these answers, below a root and with a first drawing
-pub record Started {M A : Type 0} (K : Kind A) (priced : Link → Link → A) (g : Grid) (answered : Grid → Partial → A) (root : Partial) (first : TwoRows) (s : Search M A) : Type 0 where
+pub record Started {M A : Type 0} {gm : MeasureGhosts M A} {ga : AmountGhosts A} (K : Kind A) (priced : Link → Link → A) (g : Grid) (answered : Grid → Partial → A) (root : Partial) (first : TwoRows) (s : Search M A gm ga) : Type 0 where
   pub design : grid_in s ≡ g
   pub walk : walk_of s ≡ start K g (cost_of K priced g) (answered g) root first
   pub below : SearchBelow K priced answered root s
 
 -- t is the walk s after a run for so many nodes by a rule with these answers, which opened n
-pub record Ran {M A : Type 0} (K : Kind A) (priced : Link → Link → A) (answered : Grid → Partial → A) (nodes : ℕ) (s t : Search M A) (n : ℕ) : Type 0 where
+pub record Ran {M A : Type 0} {gm : MeasureGhosts M A} {ga : AmountGhosts A} (K : Kind A) (priced : Link → Link → A) (answered : Grid → Partial → A) (nodes : ℕ) (s t : Search M A gm ga) (n : ℕ) : Type 0 where
   pub design : t.path.design ≡ s.path.design
   pub walk : walk_of t ≡ run K (grid_in s) (cost_of K priced (grid_in s)) (answered (grid_in s)) nodes (walk_of s)
   pub opened : s.opened + n ≡ t.opened
@@ -30,7 +32,7 @@ pub record Ran {M A : Type 0} (K : Kind A) (priced : Link → Link → A) (answe
   pub steady : (root : Partial) → SearchBelow K priced answered root s → Steady K (walk_of s) (walk_of t)
 
 -- t is the walk s after a drawing was offered
-pub record Weighed {M A : Type 0} (K : Kind A) (priced : Link → Link → A) (x : TwoRows) (s t : Search M A) (r : Offered A) : Type 0 where
+pub record Weighed {M A : Type 0} {gm : MeasureGhosts M A} {ga : AmountGhosts A} (K : Kind A) (priced : Link → Link → A) (x : TwoRows) (s t : Search M A gm ga) (r : Offered A) : Type 0 where
   pub design : t.path.design ≡ s.path.design
   pub walk : walk_of t ≡ offer K (cost_of K priced (grid_in s)) x (walk_of s)
   pub cost : r.cost ≡ cost_of K priced (grid_in s) x

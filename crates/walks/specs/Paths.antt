@@ -1,5 +1,5 @@
 -- The way from the root to the node whose children are opened, and the open nodes that it stands for.
-use Rattle.std.specs.Prelude.{ℕ, zero, suc, ◌+◌, ◌≤◌, List, [], ◌∷◌, ◌++◌, length, take, drop}
+use Rattle.std.specs.Prelude.{ℕ, suc, ◌+◌, ◌≤◌, List, [], ◌∷◌, ◌++◌, length, drop}
 use Rattle.designs.specs.Grids.{Grid}
 use Rattle.partials.specs.Nodes.{partial_of}
 use Rattle.partials.specs.Partials.{Partial, PartialOf}

@@ -1,7 +1,9 @@
 -- The report of a walk, and that it is true.
-use Rattle.std.specs.Prelude.{◌≡◌, ℕ, ◌≤◌, true}
+use Rattle.std.specs.Prelude.{◌≡◌, ◌≤◌, true}
 use Rattle.measures.specs.Amounts.{Kind}
 use Rattle.measures.specs.declared.link.Link.{Link}
+use Rattle.measures.specs.declared.measure.Measure.{Ghosts as MeasureGhosts}
+use Rattle.measures.specs.declared.amount.Amount.{Ghosts as AmountGhosts}
 use Rattle.designs.specs.Grids.{Grid}
 use Rattle.designs.specs.Readings.{rows_of, cost_of}
 use Rattle.partials.specs.Partials.{Partial, DrawingOf, Completes}
@@ -33,5 +35,5 @@ pub record TrueReport {A : Type 0} (K : Kind A) (priced : Link → Link → A) (
   pub counted : r.opened ≤ nodes_below g root
 
 -- whatever lawful rule a walk goes by, and whatever its root is, its report is true
-abbrev pub AlwaysTrue : {M A : Type 0} → Kind A → (Link → Link → A) → Search M A → Report A → Type 0
+abbrev pub AlwaysTrue : {M A : Type 0} {gm : MeasureGhosts M A} {ga : AmountGhosts A} → Kind A → (Link → Link → A) → Search M A gm ga → Report A → Type 0
 AlwaysTrue {A = A} K priced s r = (answered : Grid → Partial → A) (root : Partial) → Bounding K priced answered → SearchBelow K priced answered root s → TrueReport K priced (grid_in s) root r

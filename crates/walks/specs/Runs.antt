@@ -1,5 +1,5 @@
 -- How many nodes may be asked for, and what a run opens.
-use Rattle.std.specs.Prelude.{◌≡◌, ℕ, ◌+◌, ◌-◌, ◌<◌, ◌≤◌, Bool, true, cond, ◌||◌, Ok, Err, Result, ◌==◌, nat_lt}
+use Rattle.std.specs.Prelude.{◌≡◌, ℕ, ◌+◌, ◌<◌, ◌≤◌, true, cond, ◌||◌, Ok, Err, Result, ◌==◌, nat_lt}
 use Rattle.measures.specs.Amounts.{Kind}
 use Rattle.walks.specs.Walk.{Walk, is_done}
 use Rattle.walks.specs.declared.fault.RunFault.{RunFault}

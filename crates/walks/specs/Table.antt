@@ -1,10 +1,9 @@
 -- The worked designs, evaluated.
-use Rattle.std.specs.Prelude.{◌≡◌, ℕ, ◌+◌, Bool, true, false, List, [], ◌∷◌, replicate, Some, None, Option, refl}
+use Rattle.std.specs.Prelude.{◌≡◌, ℕ, Bool, true, replicate, Some, None}
 use Rattle.measures.specs.Amounts.{Kind}
 use Rattle.measures.specs.Sums.{sums}
 use Rattle.measures.specs.Pairs.{pairs}
 use Rattle.measures.specs.Prices.{strand_price, trunk_price}
-use Rattle.measures.specs.declared.link.Class.{Class}
 use Rattle.measures.specs.declared.link.Class.TheVariants.{Ordinary, Trunk}
 use Rattle.measures.specs.declared.link.Link.{Link}
 use Rattle.measures.specs.declared.sum.Sum.{Sum}

@@ -50,8 +50,8 @@ impl<P: PrintingMeasure, R: Drop> MeasuredSession<P, R> {
     pub fn call_on_line(&mut self, script: &[u8], place: usize, line: &mut [u8]) -> LineReply<P>
         ensures told { result.told ≡ (called P.Amount.Amount.kind P.Measure.priced (stage_of self.old.condition) script.now place (length line.old)).told }
         ensures next { result.next ≡ next_byte script.now place (read_command script.now place (length line.old)) }
-        ensures wrote { result.wrote ≡ length (if_room (length line.old) (answer_line written result.told)) }
-        ensures bytes { line.new ≡ written_on line.old (if_room (length line.old) (answer_line written result.told)) }
+        ensures wrote { result.wrote ≡ length (if_room (length line.old) (answer_line P.PrintingMeasure.written result.told)) }
+        ensures bytes { line.new ≡ written_on line.old (if_room (length line.old) (answer_line P.PrintingMeasure.written result.told)) }
         ensures stage { stage_of self.new.condition ≡ (called {M = P} P.Amount.Amount.kind P.Measure.priced (stage_of self.old.condition) script.now place (length line.old)).stage }
         ensures refused { OnErr result.told (self.new ≡ self.old) }
         ensures rule { self.new.rule ≡ self.old.rule }

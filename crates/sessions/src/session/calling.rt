@@ -85,8 +85,8 @@ fn measured_call<P: PrintingMeasure>(
 ) -> Answer
     ensures refused { result.refused ≡ fault_in (called {M = P} P.Amount.Amount.kind P.Measure.priced (stage_of session.old.condition) script.now place (length line.old)).told }
     ensures next { result.next ≡ next_byte script.now place (read_command script.now place (length line.old)) }
-    ensures wrote { result.wrote ≡ length (if_room (length line.old) (answer_line written (called {M = P} P.Amount.Amount.kind P.Measure.priced (stage_of session.old.condition) script.now place (length line.old)).told)) }
-    ensures bytes { line.new ≡ written_on line.old (if_room (length line.old) (answer_line written (called {M = P} P.Amount.Amount.kind P.Measure.priced (stage_of session.old.condition) script.now place (length line.old)).told)) }
+    ensures wrote { result.wrote ≡ length (if_room (length line.old) (answer_line P.PrintingMeasure.written (called {M = P} P.Amount.Amount.kind P.Measure.priced (stage_of session.old.condition) script.now place (length line.old)).told)) }
+    ensures bytes { line.new ≡ written_on line.old (if_room (length line.old) (answer_line P.PrintingMeasure.written (called {M = P} P.Amount.Amount.kind P.Measure.priced (stage_of session.old.condition) script.now place (length line.old)).told)) }
     ensures stage { stage_of session.new.condition ≡ (called {M = P} P.Amount.Amount.kind P.Measure.priced (stage_of session.old.condition) script.now place (length line.old)).stage }
     ensures kept { OnSome result.refused (session.new ≡ session.old) }
     ensures rule { session.new.rule ≡ session.old.rule }

@@ -1,4 +1,4 @@
-use Rattle.std.proofs.Common.{◌+◌, ◌≤◌, [], ◌∷◌, ◌++◌, length, set, ap, ◌∙◌, arith}
+use Rattle.std.proofs.Common.{◌+◌, ◌≤◌, ◌++◌, length, set, ap, ◌∙◌, arith}
 use Rattle.measures.specs.Lines.{over}
 use Rattle.sessions.specs.Texts.{field, offer_word}
 use Rattle.sessions.proofs.Written.{wrote_none, wrote_field, wrote_all}

@@ -2,7 +2,6 @@ use Rattle.std.proofs.Common.{◌<◌, [], ◌∷◌, ◌++◌, get_or, take, sy
 use Rattle.std.proofs.ByRecursion.{All-get_or}
 use Rattle.std.proofs.lemmas.List.{take_more, take_all}
 use Rattle.partials.specs.Nodes.{partial_of}
-use Rattle.partials.specs.Partials.{Partial}
 use Rattle.partials.proofs.node.Node.extend_left.Goals as goal
 
 pub push_left-requires : goal.push_left-requires

@@ -1,6 +1,6 @@
-use Rattle.std.proofs.Common.{ℕ, ◌-◌, [], Some, sym, refl, ap, ◌∙◌, arith}
+use Rattle.std.proofs.Common.{Some, sym, ap, ◌∙◌, arith}
 use Rattle.partials.specs.Nodes.{partial_of}
-use Rattle.partials.specs.Tree.{put_at, placings, nth}
+use Rattle.partials.specs.Tree.{placings, nth}
 use Rattle.partials.proofs.Fronts.{placed-length}
 use Rattle.partials.proofs.Nth.{nth_placing, no_placing}
 use Rattle.partials.proofs.node.Node.with_left.Goals as goal

@@ -1,4 +1,4 @@
-use Rattle.std.proofs.Common.{◌≡◌, ◌≤◌, cond, ◌⊎◌, [], sym, refl, ap, ◌∙◌, inl, inr, ⊎_elim, arith}
+use Rattle.std.proofs.Common.{cond, [], sym, refl, ap, ◌∙◌, inl, inr, arith}
 use Rattle.designs.specs.Grids.{grid_of}
 use Rattle.walks.specs.Paths.{open_at}
 use Rattle.walks.proofs.OnPaths.{begun_open, begun_closed, begun_lawful}
@@ -6,13 +6,7 @@ use Rattle.walks.proofs.path.Path.begin.Goals as goal
 use Rattle.walks.proofs.path.Path.begin.Goals.{then-waiting, else-waiting}
 
 pub invariant_of-result : goal.invariant_of-result
-invariant_of-result g c = (
-  refl,
-  (
-    elim c.if-waiting.branch [ then-waiting w ↦ omega (arith, w.result-is) | else-waiting w ↦ omega (arith, w.result-is) ],
-    (begun_lawful (grid_of c.args.design) c.args.root _ c.if-waiting.result c.requires (elim c.if-waiting.branch [ then-waiting w ↦ inl w.result-is | else-waiting w ↦ inr w.result-is ]), tt),
-  ),
-)
+invariant_of-result g c = record { whole = refl; deep = elim c.if-waiting.branch [ then-waiting w ↦ omega (arith, w.result-is) | else-waiting w ↦ omega (arith, w.result-is) ]; lawful = begun_lawful (grid_of c.args.design) c.args.root _ c.if-waiting.result c.requires (elim c.if-waiting.branch [ then-waiting w ↦ inl w.result-is | else-waiting w ↦ inr w.result-is ]) }
 
 pub returns : goal.returns
 returns g c =

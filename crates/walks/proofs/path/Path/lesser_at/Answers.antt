@@ -1,4 +1,4 @@
-use Rattle.std.proofs.Common.{◌-◌, get_or, take, sym, ap, ◌∙◌, subst, arith}
+use Rattle.std.proofs.Common.{◌-◌, get_or, take, sym, ap, ◌∙◌, arith}
 use Rattle.std.proofs.lemmas.List.{get_or_default}
 use Rattle.designs.specs.Grids.{grid_of}
 use Rattle.walks.specs.Paths.{open_on}

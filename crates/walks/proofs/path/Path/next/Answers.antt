@@ -1,4 +1,4 @@
-use Rattle.std.proofs.Common.{◌-◌, get_or, sym, refl, ap, ◌∙◌, arith, length-set}
+use Rattle.std.proofs.Common.{◌-◌, get_or, sym, ◌∙◌, arith, length-set}
 use Rattle.std.proofs.lemmas.List.{get_or_default}
 use Rattle.designs.specs.Grids.{grid_of}
 use Rattle.partials.specs.Nodes.{partial_of}
@@ -9,10 +9,7 @@ pub invariant_of-self : goal.invariant_of-self
 invariant_of-self g c =
     let s = c.loop-self.self in
     let x = get_or s.levels (s.depth - 1) c.index-self-at.result in
-    let is = get_or_default s.levels (s.depth - 1) c.index-self-at.result x (omega (arith, s.whole, s.deep, c.loop-self-test.true)) in (
-      s.whole,
-      (omega (arith, s.deep), (back_lawful (grid_of s.design) s.levels s.depth c.loop-self-test.true (omega (arith, s.whole, s.deep)) x is s.lawful, tt)),
-    )
+    let is = get_or_default s.levels (s.depth - 1) c.index-self-at.result x (omega (arith, s.whole, s.deep, c.loop-self-test.true)) in record { whole = s.whole; deep = omega (arith, s.deep); lawful = back_lawful (grid_of s.design) s.levels s.depth c.loop-self-test.true (omega (arith, s.whole, s.deep)) x is s.lawful }
 
 pub loop-self-preserved : goal.loop-self-preserved
 loop-self-preserved g c =
@@ -27,10 +24,7 @@ pub invariant_of-self-in-loop-self : goal.invariant_of-self-in-loop-self
 invariant_of-self-in-loop-self g c =
     let s = c.loop-self.self in
     let x = get_or s.levels (s.depth - 1) c.index-self-at.result in
-    let is = get_or_default s.levels (s.depth - 1) c.index-self-at.result x (omega (arith, s.whole, s.deep, c.loop-self-test.true)) in (
-      length-set s.levels (s.depth - 1) _ ∙ s.whole,
-      (s.deep, (taken_lawful (grid_of s.design) s.levels s.depth c.loop-self-test.true (omega (arith, s.whole, s.deep)) x is s.lawful, tt)),
-    )
+    let is = get_or_default s.levels (s.depth - 1) c.index-self-at.result x (omega (arith, s.whole, s.deep, c.loop-self-test.true)) in record { whole = length-set s.levels (s.depth - 1) _ ∙ s.whole; deep = s.deep; lawful = taken_lawful (grid_of s.design) s.levels s.depth c.loop-self-test.true (omega (arith, s.whole, s.deep)) x is s.lawful }
 
 pub returns-in-loop-self : goal.returns-in-loop-self
 returns-in-loop-self g c =

@@ -1,4 +1,4 @@
-use Rattle.std.proofs.Common.{◌+◌, ◌-◌, sym, ap, ◌∙◌, subst, arith}
+use Rattle.std.proofs.Common.{◌+◌, ◌-◌, sym, ap, ◌∙◌, arith}
 use Rattle.designs.specs.Grids.{grid_of}
 use Rattle.designs.specs.Readings.{cost_of}
 use Rattle.walks.specs.Searches.{walk_of, grid_in}

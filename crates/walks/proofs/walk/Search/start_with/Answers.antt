@@ -1,8 +1,7 @@
-use Rattle.std.proofs.Common.{◌≡◌, sym, refl, ap, ◌∙◌}
+use Rattle.std.proofs.Common.{ap}
 use Rattle.designs.specs.Grids.{grid_of}
 use Rattle.designs.specs.Readings.{rows_of, cost_of}
 use Rattle.partials.specs.Nodes.{partial_of}
-use Rattle.partials.specs.Tree.{children}
 use Rattle.walks.specs.Frontiers.{frontier_of}
 use Rattle.walks.specs.Reached.Reached.{starts}
 use Rattle.walks.specs.Walk.{start}

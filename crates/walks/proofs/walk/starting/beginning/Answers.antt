@@ -1,6 +1,6 @@
 use Rattle.std.proofs.Common.{sym, subst}
 use Rattle.designs.specs.Grids.{grid_of}
-use Rattle.designs.specs.Readings.{rows_of, first_rows}
+use Rattle.designs.specs.Readings.{rows_of}
 use Rattle.partials.specs.Partials.{PartialOf, DrawingOf, Completes}
 use Rattle.partials.specs.Children.{number_order_order, nothing_partial, nothing_completed}
 use Rattle.walks.proofs.walk.starting.beginning.Goals as goal
