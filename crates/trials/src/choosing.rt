@@ -71,7 +71,7 @@ struct Trial {
 }
 
 impl Trial {
-    fn new(heap: Global) -> Result<Trial, Fail> {
+    fn new(rt: &impl Abort, heap: Global) -> Result<Trial, Fail> {
         let mut design = Design::empty(3, 3)?;
         let mut sheet = Sheet::new(heap);
         for link in &LINKS {
@@ -81,7 +81,7 @@ impl Trial {
                 link.strands,
                 if link.trunk { 1 } else { 0 },
             )?;
-            assert!(sheet.put(*link)?);
+            assert!(rt; sheet.put(*link)?);
         }
         Ok(Trial { design, sheet })
     }
@@ -101,14 +101,20 @@ impl Trial {
     }
 
     // Chooses between two drawings, and compares them.
-    fn choose_one(&self, heap: Global, one: &Rows, two: &Rows) -> Result<Comparison, Fail> {
+    fn choose_one(
+        &self,
+        rt: &impl Abort,
+        heap: Global,
+        one: &Rows,
+        two: &Rows,
+    ) -> Result<Comparison, Fail> {
         let first = part(heap, &one.left, &one.right)?;
         let second = part(heap, &two.left, &two.right)?;
         let expected = self.comparison(one, two);
         let chosen = choose::<ByStrands>(&self.design, first.as_slice(), second.as_slice())?;
         match expected {
-            Comparison::More => assert_eq!(chosen, second.as_slice()),
-            _ => assert_eq!(chosen, first.as_slice()),
+            Comparison::More => assert_eq!(rt; chosen, second.as_slice()),
+            _ => assert_eq!(rt; chosen, first.as_slice()),
         }
         let first_cost = self
             .design
@@ -116,7 +122,7 @@ impl Trial {
         let second_cost = self
             .design
             .cost::<ByStrands>(&read_part(&self.design, second.as_slice())?);
-        assert_eq!(compare::<ByStrands>(first_cost, second_cost), expected);
+        assert_eq!(rt; compare::<ByStrands>(first_cost, second_cost), expected);
         Ok(expected)
     }
 }
@@ -133,13 +139,13 @@ fn all_rows(heap: Global) -> Result<Vec<Rows>, AllocError> {
 
 // Every drawing of the design against every other.
 fn check_choices(rt: &impl Abort, heap: Global) -> Result<(), Fail> {
-    let trial = Trial::new(heap)?;
+    let trial = Trial::new(rt, heap)?;
     let rows = all_rows(heap)?;
     let mut fewer = 0u32;
     let mut alike = 0u32;
     for one in rows.iter() {
         for two in rows.iter() {
-            match trial.choose_one(heap, one, two)? {
+            match trial.choose_one(rt, heap, one, two)? {
                 Comparison::Fewer => fewer = fewer.wrapping_add(1),
                 Comparison::Alike => alike = alike.wrapping_add(1),
                 Comparison::More => {}

@@ -6,6 +6,7 @@ use measures::link::Class;
 use measures::strands::ByStrands;
 use measures::trunks::ByTrunks;
 use std::alloc::Global;
+use std::process::Abort;
 use std::test::*;
 
 // What the trials met, so that none of it is left out.
@@ -50,12 +51,12 @@ impl Trial {
     }
 
     // Puts one link into both, which agree on whether it fits and on its cell afterwards.
-    fn put(&mut self, seed: &mut Seed, met: &mut Met) -> Result<(), Fail> {
+    fn put(&mut self, rt: &impl Abort, seed: &mut Seed, met: &mut Met) -> Result<(), Fail> {
         let link = self.some_link(seed);
         let class = if link.trunk { 1 } else { 0 };
         let put = self.design.link(link.left, link.right, link.strands, class);
         if self.sheet.put(link)? {
-            assert_eq!(
+            assert_eq!(rt;
                 put,
                 Ok(if link.trunk {
                     Class::Trunk
@@ -64,27 +65,33 @@ impl Trial {
                 })
             );
         } else {
-            assert_eq!(put, Err(DesignFault::InLink(LinkFault::CellFull)));
+            assert_eq!(rt; put, Err(DesignFault::InLink(LinkFault::CellFull)));
             met.full_cells = met.full_cells.wrapping_add(1);
         }
         let cell = self.design.cell(link.left % 24, link.right % 24);
         let held = self.sheet.at(link.left, link.right);
-        assert_eq!(cell.strands, held.strands);
-        assert_eq!(cell.class.is_trunk(), held.trunk);
+        assert_eq!(rt; cell.strands, held.strands);
+        assert_eq!(rt; cell.class.is_trunk(), held.trunk);
         Ok(())
     }
 
     // Compares what one drawing costs.
-    fn draw(&self, heap: Global, seed: &mut Seed, met: &mut Met) -> Result<(), Fail> {
+    fn draw(
+        &self,
+        rt: &impl Abort,
+        heap: Global,
+        seed: &mut Seed,
+        met: &mut Met,
+    ) -> Result<(), Fail> {
         let left = seed.row(heap, self.design.left_size())?;
         let right = seed.row(heap, self.design.right_size())?;
         let bytes = part(heap, left.as_slice(), right.as_slice())?;
         let drawing = read_part(&self.design, bytes.as_slice())?;
         let expected = self.sheet.cost(left.as_slice(), right.as_slice());
-        assert_eq!(self.design.cost::<ByStrands>(&drawing).value, expected.all);
+        assert_eq!(rt; self.design.cost::<ByStrands>(&drawing).value, expected.all);
         let pair = self.design.cost::<ByTrunks>(&drawing);
-        assert_eq!(pair.trunk, expected.trunk);
-        assert_eq!(pair.rest, expected.rest);
+        assert_eq!(rt; pair.trunk, expected.trunk);
+        assert_eq!(rt; pair.rest, expected.rest);
         match (expected.trunk > 0, expected.rest > 0) {
             (false, false) => met.without = met.without.wrapping_add(1),
             (true, false) => met.trunk = met.trunk.wrapping_add(1),
@@ -108,10 +115,10 @@ fn random_drawings(rt: HostRuntime) -> Result<(), Fail> {
     for _ in 0..300 {
         let mut trial = Trial::new(rt.alloc(), &mut seed)?;
         for _ in 0..seed.below(20) {
-            trial.put(&mut seed, &mut met)?;
+            trial.put(&rt, &mut seed, &mut met)?;
         }
         for _ in 0..3 {
-            trial.draw(rt.alloc(), &mut seed, &mut met)?;
+            trial.draw(&rt, rt.alloc(), &mut seed, &mut met)?;
         }
     }
     assert!(rt; met.full_cells > 50);

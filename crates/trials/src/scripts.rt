@@ -1,6 +1,7 @@
 use scripts::fault::ScriptFault;
 use sessions::session::Session;
 use std::alloc::{AllocError, Global};
+use std::process::Abort;
 use std::test::*;
 
 // A byte that no line has in its text.
@@ -21,15 +22,16 @@ fn number_of(refused: &Option<ScriptFault>) -> u8 {
     }
 }
 
-fn check_untouched(bytes: &[u8]) -> Result<(), Fail> {
+fn check_untouched(rt: &impl Abort, bytes: &[u8]) -> Result<(), Fail> {
     for b in bytes {
-        assert_eq!(*b, UNTOUCHED);
+        assert_eq!(rt; *b, UNTOUCHED);
     }
     Ok(())
 }
 
 // Calls the session on a line of this length, which is unchanged behind the text.
 fn call(
+    rt: &impl Abort,
     heap: Global,
     session: &mut Session,
     script: &[u8],
@@ -46,7 +48,7 @@ fn call(
         .as_slice()
         .get(answer.wrote..room)
         .ok_or("more text than line")?;
-    check_untouched(behind)?;
+    check_untouched(rt, behind)?;
     let text = written.to_vec(heap)?;
     Ok(Outcome {
         refused: number_of(&answer.refused),
@@ -57,7 +59,13 @@ fn call(
 
 // Plays a script as the program does, call after call: the text of all lines, and the last call's refusal and next byte.
 // A script of so many bytes has at most as many commands.
-fn play(heap: Global, session: &mut Session, script: &[u8], room: usize) -> Result<Outcome, Fail> {
+fn play(
+    rt: &impl Abort,
+    heap: Global,
+    session: &mut Session,
+    script: &[u8],
+    room: usize,
+) -> Result<Outcome, Fail> {
     let mut all = Outcome {
         refused: 0,
         next: 0,
@@ -67,7 +75,7 @@ fn play(heap: Global, session: &mut Session, script: &[u8], room: usize) -> Resu
         if all.next >= script.len() {
             break;
         }
-        let last = call(heap, session, script, all.next, room)?;
+        let last = call(rt, heap, session, script, all.next, room)?;
         all.text.extend_from_slice(last.text.as_slice())?;
         all.refused = last.refused;
         all.next = last.next;
@@ -75,10 +83,16 @@ fn play(heap: Global, session: &mut Session, script: &[u8], room: usize) -> Resu
     Ok(all)
 }
 
-fn check_outcome(outcome: &Outcome, refused: u8, next: usize, text: &[u8]) -> Result<(), Fail> {
-    assert_eq!(outcome.text.as_slice(), text);
-    assert_eq!(outcome.refused, refused);
-    assert_eq!(outcome.next, next);
+fn check_outcome(
+    rt: &impl Abort,
+    outcome: &Outcome,
+    refused: u8,
+    next: usize,
+    text: &[u8],
+) -> Result<(), Fail> {
+    assert_eq!(rt; outcome.text.as_slice(), text);
+    assert_eq!(rt; outcome.refused, refused);
+    assert_eq!(rt; outcome.next, next);
     Ok(())
 }
 
@@ -122,29 +136,35 @@ const STARTS: [Start; 7] = [
 
 impl Start {
     // A session in this condition.
-    fn session(&self, heap: Global) -> Result<Session, Fail> {
+    fn session(&self, rt: &impl Abort, heap: Global) -> Result<Session, Fail> {
         let mut session = Session::new();
-        let outcome = play(heap, &mut session, self.script, 256)?;
-        check_outcome(&outcome, 0, self.script.len(), b"")?;
+        let outcome = play(rt, heap, &mut session, self.script, 256)?;
+        check_outcome(rt, &outcome, 0, self.script.len(), b"")?;
         Ok(session)
     }
 
     // Plays the script with one command more, and gives the last call's outcome.
-    fn then(&self, heap: Global, command: &[u8]) -> Result<Outcome, Fail> {
+    fn then(&self, rt: &impl Abort, heap: Global, command: &[u8]) -> Result<Outcome, Fail> {
         let mut script = self.script.to_vec(heap)?;
         script.extend_from_slice(command)?;
-        let outcome = play(heap, &mut Session::new(), script.as_slice(), 256)?;
-        assert_eq!(outcome.next, script.len());
+        let outcome = play(rt, heap, &mut Session::new(), script.as_slice(), 256)?;
+        assert_eq!(rt; outcome.next, script.len());
         Ok(outcome)
     }
 
     // The same, where the script's layer refuses the command.
-    fn then_refused(&self, heap: Global, command: &[u8], number: u8) -> Result<(), Fail> {
-        let outcome = self.then(heap, command)?;
+    fn then_refused(
+        &self,
+        rt: &impl Abort,
+        heap: Global,
+        command: &[u8],
+        number: u8,
+    ) -> Result<(), Fail> {
+        let outcome = self.then(rt, heap, command)?;
         let at = self.script.len();
         let text = format!(in heap; "refused {number} script {at}\n")?;
-        assert_eq!(outcome.refused, number);
-        assert_eq!(outcome.text.as_slice(), text.as_bytes());
+        assert_eq!(rt; outcome.refused, number);
+        assert_eq!(rt; outcome.text.as_slice(), text.as_bytes());
         Ok(())
     }
 }
@@ -196,15 +216,15 @@ impl Command {
         Ok(bytes)
     }
 
-    fn check_from(&self, heap: Global, start: &Start) -> Result<(), Fail> {
+    fn check_from(&self, rt: &impl Abort, heap: Global, start: &Start) -> Result<(), Fail> {
         for count in 0..self.width {
-            start.then_refused(heap, self.with_zeros(heap, count)?.as_slice(), 4)?;
+            start.then_refused(rt, heap, self.with_zeros(heap, count)?.as_slice(), 4)?;
         }
         let whole = self.with_zeros(heap, self.width)?;
         if !start.takes.contains(&self.letter) {
-            return start.then_refused(heap, whole.as_slice(), 5);
+            return start.then_refused(rt, heap, whole.as_slice(), 5);
         }
-        assert_eq!(start.then(heap, whole.as_slice())?.refused, self.zeros);
+        assert_eq!(rt; start.then(rt, heap, whole.as_slice())?.refused, self.zeros);
         Ok(())
     }
 }
@@ -214,7 +234,7 @@ impl Command {
 fn operands(rt: HostRuntime) -> Result<(), Fail> {
     for start in &STARTS {
         for command in &COMMANDS {
-            command.check_from(rt.alloc(), start)?;
+            command.check_from(&rt, rt.alloc(), start)?;
         }
     }
     Ok(())
@@ -230,8 +250,8 @@ fn unknown_letters(rt: HostRuntime) -> Result<(), Fail> {
     for start in &STARTS {
         for byte in 0..=255u8 {
             if !is_letter(byte) {
-                start.then_refused(rt.alloc(), &[byte], 3)?;
-                start.then_refused(rt.alloc(), &[byte, b'M', 1, 1, b'C'], 3)?;
+                start.then_refused(&rt, rt.alloc(), &[byte], 3)?;
+                start.then_refused(&rt, rt.alloc(), &[byte, b'M', 1, 1, b'C'], 3)?;
             }
         }
     }
@@ -239,18 +259,28 @@ fn unknown_letters(rt: HostRuntime) -> Result<(), Fail> {
 }
 
 // A line that is too short, before all that is wrong with the script.
-fn check_short_lines(heap: Global, session: &mut Session, script: &[u8]) -> Result<(), Fail> {
+fn check_short_lines(
+    rt: &impl Abort,
+    heap: Global,
+    session: &mut Session,
+    script: &[u8],
+) -> Result<(), Fail> {
     for room in [0, 1, 255] {
         for place in [0, 5, script.len(), usize::MAX] {
-            let outcome = call(heap, session, script, place, room)?;
-            check_outcome(&outcome, 1, place, b"")?;
+            let outcome = call(rt, heap, session, script, place, room)?;
+            check_outcome(rt, &outcome, 1, place, b"")?;
         }
     }
     Ok(())
 }
 
 // A place at the end of the script, and places behind it.
-fn check_ends(heap: Global, session: &mut Session, script: &[u8]) -> Result<(), Fail> {
+fn check_ends(
+    rt: &impl Abort,
+    heap: Global,
+    session: &mut Session,
+    script: &[u8],
+) -> Result<(), Fail> {
     let end = script.len();
     for place in [
         end,
@@ -258,30 +288,40 @@ fn check_ends(heap: Global, session: &mut Session, script: &[u8]) -> Result<(), 
         end.saturating_add(65536),
         usize::MAX,
     ] {
-        let outcome = call(heap, session, script, place, 256)?;
+        let outcome = call(rt, heap, session, script, place, 256)?;
         let text = format!(in heap; "refused 4 script {place}\n")?;
-        check_outcome(&outcome, 4, end, text.as_bytes())?;
+        check_outcome(rt, &outcome, 4, end, text.as_bytes())?;
     }
     Ok(())
 }
 
 // A script that is too long, at any place.
-fn check_too_long(heap: Global, session: &mut Session, script: &[u8]) -> Result<(), Fail> {
+fn check_too_long(
+    rt: &impl Abort,
+    heap: Global,
+    session: &mut Session,
+    script: &[u8],
+) -> Result<(), Fail> {
     for place in [0, 5, 65536, 65537, usize::MAX] {
-        let outcome = call(heap, session, script, place, 256)?;
-        check_outcome(&outcome, 2, 65537, b"refused 2 script 0\n")?;
+        let outcome = call(rt, heap, session, script, place, 256)?;
+        check_outcome(rt, &outcome, 2, 65537, b"refused 2 script 0\n")?;
     }
     Ok(())
 }
 
 // The longest script, of closes, to a session that takes none.
-fn check_longest(heap: Global, session: &mut Session, script: &[u8]) -> Result<(), Fail> {
+fn check_longest(
+    rt: &impl Abort,
+    heap: Global,
+    session: &mut Session,
+    script: &[u8],
+) -> Result<(), Fail> {
     for place in [0, 5, 65535] {
-        let outcome = call(heap, session, script, place, 256)?;
+        let outcome = call(rt, heap, session, script, place, 256)?;
         let text = format!(in heap; "refused 5 script {place}\n")?;
-        check_outcome(&outcome, 5, place.wrapping_add(1), text.as_bytes())?;
+        check_outcome(rt, &outcome, 5, place.wrapping_add(1), text.as_bytes())?;
     }
-    check_ends(heap, session, script)
+    check_ends(rt, heap, session, script)
 }
 
 #[test]
@@ -290,15 +330,15 @@ fn lengths(rt: HostRuntime) -> Result<(), Fail> {
     let longest = vec![in heap; b'C'; 65536]?;
     let too_long = vec![in heap; b'C'; 65537]?;
     for start in &STARTS {
-        let mut session = start.session(heap)?;
-        check_short_lines(heap, &mut session, start.script)?;
-        check_short_lines(heap, &mut session, b"Z and more")?;
-        check_short_lines(heap, &mut session, too_long.as_slice())?;
-        check_ends(heap, &mut session, b"")?;
-        check_ends(heap, &mut session, start.script)?;
-        check_too_long(heap, &mut session, too_long.as_slice())?;
+        let mut session = start.session(&rt, heap)?;
+        check_short_lines(&rt, heap, &mut session, start.script)?;
+        check_short_lines(&rt, heap, &mut session, b"Z and more")?;
+        check_short_lines(&rt, heap, &mut session, too_long.as_slice())?;
+        check_ends(&rt, heap, &mut session, b"")?;
+        check_ends(&rt, heap, &mut session, start.script)?;
+        check_too_long(&rt, heap, &mut session, too_long.as_slice())?;
         if !start.takes.contains(&b'C') {
-            check_longest(heap, &mut session, longest.as_slice())?;
+            check_longest(&rt, heap, &mut session, longest.as_slice())?;
         }
     }
     Ok(())
@@ -519,12 +559,13 @@ fn whole_scripts(rt: HostRuntime) -> Result<(), Fail> {
             script.extend_from_slice(*piece)?;
         }
         let outcome = play(
+            &rt,
             rt.alloc(),
             &mut Session::new(),
             script.as_slice(),
             case.room,
         )?;
-        check_outcome(&outcome, case.refused, case.next, case.text)?;
+        check_outcome(&rt, &outcome, case.refused, case.next, case.text)?;
     }
     Ok(())
 }

@@ -52,15 +52,15 @@ impl Met {
         count(&mut self.improved, end.cost < start.cost);
     }
 
-    fn check(&self) -> Result<(), Fail> {
-        assert!(self.at_once > 50);
-        assert!(self.pruned > 50);
-        assert!(self.long > 50);
-        assert!(self.improved > 50);
-        assert!(self.inside > 50);
-        assert!(self.taken > 50);
-        assert!(self.kept > 50);
-        assert!(self.tied > 50);
+    fn check(&self, rt: &impl Abort) -> Result<(), Fail> {
+        assert!(rt; self.at_once > 50);
+        assert!(rt; self.pruned > 50);
+        assert!(rt; self.long > 50);
+        assert!(rt; self.improved > 50);
+        assert!(rt; self.inside > 50);
+        assert!(rt; self.taken > 50);
+        assert!(rt; self.kept > 50);
+        assert!(rt; self.tied > 50);
         Ok(())
     }
 }
@@ -134,21 +134,26 @@ struct Watch {
 
 impl Watch {
     // Whether a report is true, and tells no less than the last one; `cost` is that of the drawing in it.
-    fn check(&self, trial: &Trial, seen: &Seen, cost: Key) -> Result<(), Fail> {
-        assert_eq!(seen.cost, cost);
-        assert!(seen.floor <= self.least && self.least <= seen.cost);
-        assert!(self.last.floor <= seen.floor && seen.cost <= self.last.cost);
-        assert_eq!(seen.done, seen.floor == seen.cost);
-        assert_eq!(seen.opened, self.opened);
-        assert_eq!(seen.size, size_of(trial.lefts, trial.rights));
-        assert!(seen.opened <= seen.size.unwrap_or(0));
+    fn check(&self, rt: &impl Abort, trial: &Trial, seen: &Seen, cost: Key) -> Result<(), Fail> {
+        assert_eq!(rt; seen.cost, cost);
+        assert!(rt; seen.floor <= self.least && self.least <= seen.cost);
+        assert!(rt; self.last.floor <= seen.floor && seen.cost <= self.last.cost);
+        assert_eq!(rt; seen.done, seen.floor == seen.cost);
+        assert_eq!(rt; seen.opened, self.opened);
+        assert_eq!(rt; seen.size, size_of(trial.lefts, trial.rights));
+        assert!(rt; seen.opened <= seen.size.unwrap_or(0));
         Ok(())
     }
 
     // Looks at the report of a walk.
-    fn look<M: Keyed>(&mut self, trial: &Trial, walk: &Search<M>) -> Result<(), Fail> {
+    fn look<M: Keyed>(
+        &mut self,
+        rt: &impl Abort,
+        trial: &Trial,
+        walk: &Search<M>,
+    ) -> Result<(), Fail> {
         let seen = see(walk);
-        self.check(trial, &seen, trial.cost::<M>(&seen.left, &seen.right))?;
+        self.check(rt, trial, &seen, trial.cost::<M>(&seen.left, &seen.right))?;
         self.last = seen;
         Ok(())
     }
@@ -156,6 +161,7 @@ impl Watch {
     // Opens one to seven nodes; fewer than asked for only if the walk is then done.
     fn run<M: Keyed>(
         &mut self,
+        rt: &impl Abort,
         seed: &mut Seed,
         trial: &Trial,
         walk: &mut Search<M>,
@@ -163,14 +169,15 @@ impl Watch {
         let nodes = u32::from(seed.below(7)).wrapping_add(1);
         let opened = walk.run(&self.rule, nodes)?;
         self.opened = self.opened.wrapping_add(opened);
-        self.look(trial, walk)?;
-        assert!(opened == nodes || opened < nodes && self.last.done);
+        self.look(rt, trial, walk)?;
+        assert!(rt; opened == nodes || opened < nodes && self.last.done);
         Ok(())
     }
 
     // Offers some drawing.
     fn offer<M: Keyed>(
         &mut self,
+        rt: &impl Abort,
         seed: &mut Seed,
         met: &mut Met,
         trial: &Trial,
@@ -184,8 +191,8 @@ impl Watch {
         let cost = trial.cost::<M>(left.as_slice(), right.as_slice());
         let best = self.last.cost;
         let offered = walk.offer(drawing);
-        assert_eq!(M::key(offered.cost), cost);
-        assert_eq!(offered.taken, cost < best);
+        assert_eq!(rt; M::key(offered.cost), cost);
+        assert_eq!(rt; offered.taken, cost < best);
         let mut expected = self.last;
         if cost < best {
             expected.cost = cost;
@@ -193,8 +200,8 @@ impl Watch {
             expected.left = filled(left.as_slice());
             expected.right = filled(right.as_slice());
         }
-        self.look(trial, walk)?;
-        assert!(self.last == expected);
+        self.look(rt, trial, walk)?;
+        assert!(rt; self.last == expected);
         count(&mut met.taken, cost < best);
         count(&mut met.kept, best < cost);
         count(&mut met.tied, best == cost);
@@ -204,6 +211,7 @@ impl Watch {
     // Runs a walk to its end, with an offer now and then.
     fn to_the_end<M: Keyed>(
         &mut self,
+        rt: &impl Abort,
         seed: &mut Seed,
         met: &mut Met,
         trial: &Trial,
@@ -211,12 +219,12 @@ impl Watch {
     ) -> Result<(), Fail> {
         for _ in 0..2000 {
             if seed.below(8) == 0 {
-                self.offer(seed, met, trial, walk)?;
+                self.offer(rt, seed, met, trial, walk)?;
             }
             if self.last.done {
                 return Ok(());
             }
-            self.run(seed, trial, walk)?;
+            self.run(rt, seed, trial, walk)?;
             let inside = self.last.floor.first > 0 && self.last.floor < self.last.cost;
             count(&mut met.inside, inside);
         }
@@ -226,17 +234,18 @@ impl Watch {
     // A walk that is done has the least cost of all, and nothing changes any more.
     fn beyond<M: Keyed>(
         &mut self,
+        rt: &impl Abort,
         seed: &mut Seed,
         met: &mut Met,
         trial: &Trial,
         walk: &mut Search<M>,
     ) -> Result<(), Fail> {
         let end = self.last;
-        assert_eq!(end.cost, self.least);
-        assert_eq!(end.floor, self.least);
-        self.run(seed, trial, walk)?;
-        self.offer(seed, met, trial, walk)?;
-        assert!(self.last == end);
+        assert_eq!(rt; end.cost, self.least);
+        assert_eq!(rt; end.floor, self.least);
+        self.run(rt, seed, trial, walk)?;
+        self.offer(rt, seed, met, trial, walk)?;
+        assert!(rt; self.last == end);
         Ok(())
     }
 }
@@ -258,10 +267,10 @@ fn check_walk<M: Keyed>(
         opened: 0,
         last: start,
     };
-    watch.look(trial, walk)?;
-    watch.to_the_end(seed, met, trial, walk)?;
+    watch.look(rt, trial, walk)?;
+    watch.to_the_end(rt, seed, met, trial, walk)?;
     met.add_walk(&start, &watch.last);
-    watch.beyond(seed, met, trial, walk)
+    watch.beyond(rt, seed, met, trial, walk)
 }
 
 // Random designs, under both measures and both rules.
@@ -278,5 +287,5 @@ fn walks_against_all_drawings(rt: HostRuntime) -> Result<(), Fail> {
             check_walk(&rt, &mut seed, &mut met, &trial, rule, &mut trunks)?;
         }
     }
-    met.check()
+    met.check(&rt)
 }

@@ -359,12 +359,17 @@ impl Case {
     }
 
     // A walk that was just started, to its end and beyond.
-    fn check_whole<M: Keyed>(&self, heap: Global, walk: &mut Search<M>) -> Result<(), Fail> {
-        assert!(see(walk) == self.start(heap)?);
-        assert_eq!(walk.run(&self.rule, 100), Ok(self.opened));
-        assert!(see(walk) == self.end());
-        assert_eq!(walk.run(&self.rule, 1), Ok(0));
-        assert!(see(walk) == self.end());
+    fn check_whole<M: Keyed>(
+        &self,
+        rt: &impl Abort,
+        heap: Global,
+        walk: &mut Search<M>,
+    ) -> Result<(), Fail> {
+        assert!(rt; see(walk) == self.start(heap)?);
+        assert_eq!(rt; walk.run(&self.rule, 100), Ok(self.opened));
+        assert!(rt; see(walk) == self.end());
+        assert_eq!(rt; walk.run(&self.rule, 1), Ok(0));
+        assert!(rt; see(walk) == self.end());
         Ok(())
     }
 }
@@ -385,11 +390,11 @@ fn check_stopped(rt: &impl Abort, heap: Global, case: &Case) -> Result<(), Fail>
 fn worked_designs(rt: HostRuntime) -> Result<(), Fail> {
     for case in &BY_STRANDS {
         let mut walk = Search::<ByStrands>::start(case.design()?, &case.rule);
-        case.check_whole(rt.alloc(), &mut walk)?;
+        case.check_whole(&rt, rt.alloc(), &mut walk)?;
     }
     for case in &BY_TRUNKS {
         let mut walk = Search::<ByTrunks>::start(case.design()?, &case.rule);
-        case.check_whole(rt.alloc(), &mut walk)?;
+        case.check_whole(&rt, rt.alloc(), &mut walk)?;
     }
     check_stopped(&rt, rt.alloc(), &BY_STRANDS[0])?;
     check_stopped(&rt, rt.alloc(), &BY_STRANDS[1])
