@@ -1,10 +1,10 @@
 -- Orders of switches: how often each is named, what the tests of a row decide, and the number order.
 use Rattle.std.proofs.Common.{◌≡◌, ℕ, zero, suc, ◌+◌, ◌-◌, ◌<◌, ◌≤◌, Bool, true, false, cond, eqb, ltb, List, [], ◌∷◌, ◌++◌, length, get_or, take, drop, set, replicate, Decides, sym, refl, ◌∙◌, subst, inl, inr, add-one, arith}
-use Rattle.std.specs.List.{ContainsAt as Has, AllByRecursion as All}
-use Rattle.std.proofs.ByRecursion.{All-get_or, All-from_get_or, Decides-by_and}
+use Rattle.std.specs.List.{ContainsAt, All}
+use Rattle.std.proofs.lemmas.List.Elements.{All-nil, All-cons, All-head, All-tail, All-get_or, All-from_get_or}
 use Rattle.std.proofs.lemmas.List.{append_assoc, length-append, length-replicate, length-drop, length-take-le, length_push, get_or-drop, get_or-take, get_or-append_right, get_or-replicate, set_at, take_at}
 use Rattle.std.proofs.lemmas.Bool.{cases_eq, cases_Bool, ne_eqb}
-use Rattle.std.proofs.lemmas.Bool.Decides.{nat_tests, Decides-eqb, Decides-and, Decides-like, Decides-below_and}
+use Rattle.std.proofs.lemmas.Bool.Decides.{nat_tests, Decides-eqb, Decides-and, Decides-like, Decides-below_and, Decides-by_and}
 use Rattle.designs.specs.Rows.{times, Order, RowBytes, each_once, all_255, is_row, number_order}
 
 -- how often the switches below n are named
@@ -30,11 +30,11 @@ named_le_length n (x ∷ xs) =
 
 -- where all names count, all are below n
 all_below : (n : ℕ) (xs : List ℕ) → named n xs ≡ length xs → All (λ x. x < n) xs
-all_below n [] e = tt
+all_below n [] e = All-nil (λ x. x < n)
 all_below n (x ∷ xs) e =
     let h = named_le_length n xs in
     let s = named-cons n x xs in
-    (grind (arith, nat_tests), all_below n xs (grind (arith, nat_tests)))
+    All-cons (λ x. x < n) x xs (grind (arith, nat_tests)) (all_below n xs (grind (arith, nat_tests)))
 
 named_once : (n : ℕ) (xs : List ℕ) → ((k : ℕ) → k < n → times k xs ≡ 1) → named n xs ≡ n
 named_once zero xs h = refl
@@ -65,9 +65,9 @@ once_from_some n xs e h = named_tight n xs h (omega (arith, named_le_length n xs
 named_all : (n : ℕ) (xs : List ℕ) → All (λ x. x < n) xs → named n xs ≡ length xs
 named_all n [] h = named_none n
 named_all n (x ∷ xs) h =
-    let r = named_all n xs h.1 in
+    let r = named_all n xs (All-tail (λ x. x < n) x xs h) in
     let e = named-cons n x xs in
-    let l = h.0 in
+    let l = All-head (λ x. x < n) x xs h in
     grind (arith, nat_tests)
 
 named_few : (n : ℕ) (xs : List ℕ) → ((k : ℕ) → times k xs ≤ 1) → named n xs ≤ n
@@ -97,7 +97,7 @@ times-get_or [] i l = absurd (omega arith)
 times-get_or (x ∷ xs) zero l = grind (arith, nat_tests)
 times-get_or (x ∷ xs) (suc i) l = omega (arith, times-get_or xs i (omega arith))
 
-has_from_times : (x : ℕ) (xs : List ℕ) → 1 ≤ times x xs → Has xs x
+has_from_times : (x : ℕ) (xs : List ℕ) → 1 ≤ times x xs → ContainsAt xs x
 has_from_times x [] h = absurd (omega arith)
 has_from_times x (y ∷ ys) h = elim (cases_eq y x) [
   | inl e ↦ (0, omega arith, λ d. e)
@@ -105,7 +105,7 @@ has_from_times x (y ∷ ys) h = elim (cases_eq y x) [
 ]
 
 -- a search tells whether a switch is named
-pub decides_named : (x : ℕ) (xs : List ℕ) (r : Bool) → Decides r (Has xs x) → Decides r (1 ≤ times x xs)
+pub decides_named : (x : ℕ) (xs : List ℕ) (r : Bool) → Decides r (ContainsAt xs x) → Decides r (1 ≤ times x xs)
 decides_named x xs r =
     Decides-like r (λ h. rw (h.2 0) at (times-get_or xs h.0 h.1)) (has_from_times x xs)
 

@@ -1,10 +1,9 @@
 -- What the children of a partial drawing keep, and that every drawing that completes it completes one of them.
-use Rattle.std.specs.Prelude.{◌≡◌, ℕ, zero, suc, ◌+◌, ◌<◌, ◌≤◌, Bool, true, false, not, ltb, ◌⊎◌, List, [], ◌∷◌, ◌++◌, length, take, drop, filter, ◌==◌, ◌≢◌, nat_lt, slice_index_or, refl}
+use Rattle.std.specs.Prelude.{◌≡◌, ℕ, zero, suc, ◌+◌, ◌<◌, ◌≤◌, Bool, true, false, not, ltb, ◌⊎◌, List, [], ◌∷◌, ◌++◌, length, take, drop, filter, ◌==◌, ◌≢◌, nat_lt, slice_index_or, refl, All}
 use Rattle.std.proofs.Common.{sym, ap, subst, ◌∙◌, inl, inr, ⊎_elim, arith, length-append}
-use Rattle.std.specs.List.{AllByRecursion as All}
 use Rattle.std.proofs.lemmas.List.{take-append-drop, length_push, length-take, take_more, take-take, take_at, take_all}
 use Rattle.std.proofs.lemmas.List.Elements.{filter-append}
-use Rattle.std.proofs.ByRecursion.{All-push, All-take, All-drop, all_kept_by, kept_by_passes, All-from_get_or, All-weaker}
+use Rattle.std.proofs.lemmas.List.Elements.{All-push, All-take, All-drop, all_kept_by, kept_by_passes, All-from_get_or, All-weaker}
 use Rattle.std.proofs.lemmas.Bool.{cases_Bool, cases_eq, cases_lt, lt-ltb, le-ltb, ltb-true, ltb-false, cond-true, cond-false, not-true, not_from_false, or_parts, or_from, eqb-false, ne_eqb, both_ways, cond_both, and_from, and_parts, eq-eqb, eqb-true}
 use Rattle.designs.specs.Grids.{Grid}
 use Rattle.designs.specs.Readings.{TwoRows}

@@ -1,5 +1,4 @@
-ghost use Rattle.std.specs.Prelude.{◌≡◌, ℕ, ◌<◌};
-ghost use Rattle.std.specs.List.{AllByRecursion as All};
+ghost use Rattle.std.specs.Prelude.{◌≡◌, ℕ, ◌<◌, All};
 ghost use Rattle.designs.specs.Cells.{crossing};
 ghost use Rattle.designs.specs.Costs.{over_each, between};
 ghost use Rattle.designs.specs.Grids.{grid_of, cell_in};

@@ -1,5 +1,4 @@
-ghost use Rattle.std.specs.Prelude.{◌≡◌, ℕ, ◌<◌, ◌≤◌, ◌++◌, length, take, drop};
-ghost use Rattle.std.specs.List.{AllByRecursion as All};
+ghost use Rattle.std.specs.Prelude.{◌≡◌, ℕ, ◌<◌, ◌≤◌, ◌++◌, length, take, drop, All};
 ghost use Rattle.designs.specs.Costs.{between, over_each, over_two};
 ghost use Rattle.designs.specs.Grids.{grid_of, cell_in};
 ghost use Rattle.partials.specs.Nodes.{partial_of, rights_of};

@@ -1,6 +1,6 @@
 -- Every search is truthful, and steady from each moment to the next.
 use Rattle.std.proofs.Common.{◌≡◌, ℕ, zero, suc, ◌≤◌, true, sym, ap, ◌∙◌, subst, arith}
-use Rattle.std.proofs.ByRecursion.{All-weaker}
+use Rattle.std.proofs.lemmas.List.Elements.{All-weaker}
 use Rattle.std.proofs.lemmas.Bool.{cond_both}
 use Rattle.measures.specs.Amounts.{Kind, Lawful, AtMost}
 use Rattle.measures.specs.declared.link.Link.{Link}

@@ -1,6 +1,5 @@
 -- A search opens no more nodes than the tree has.
-use Rattle.std.proofs.Common.{◌≡◌, ℕ, ◌+◌, ◌≤◌, List, [], ◌∷◌, ◌++◌, refl, arith}
-use Rattle.std.specs.List.{AllByRecursion as All}
+use Rattle.std.proofs.Common.{◌≡◌, ℕ, ◌+◌, ◌≤◌, List, [], ◌∷◌, ◌++◌, refl, arith, All}
 use Rattle.std.proofs.lemmas.Bool.{cond_both}
 use Rattle.measures.specs.Amounts.{Kind}
 use Rattle.designs.specs.Grids.{Grid}

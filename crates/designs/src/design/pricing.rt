@@ -1,5 +1,4 @@
-ghost use Rattle.std.specs.Prelude.{◌≡◌, ℕ, ◌+◌, ◌<◌, length, drop};
-ghost use Rattle.std.specs.List.{AllByRecursion as All};
+ghost use Rattle.std.specs.Prelude.{◌≡◌, ℕ, ◌+◌, ◌<◌, length, drop, All};
 ghost use Rattle.designs.specs.Cells.{crossing};
 ghost use Rattle.designs.specs.Costs.{cost, over_each, over_two, between, CostByRightPairs};
 ghost use Rattle.designs.specs.Crossings.{CountedOnce, SharersNeverCross};

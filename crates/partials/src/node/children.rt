@@ -1,5 +1,4 @@
-ghost use Rattle.std.specs.Prelude.{◌≡◌, ℕ, ◌+◌, ◌<◌, ◌≤◌, false, [], ◌∷◌, ◌++◌, length, MatchOption, OnSome, slice_index};
-ghost use Rattle.std.specs.List.{AllByRecursion as All};
+ghost use Rattle.std.specs.Prelude.{◌≡◌, ℕ, ◌+◌, ◌<◌, ◌≤◌, false, [], ◌∷◌, ◌++◌, length, MatchOption, OnSome, slice_index, All};
 ghost use Rattle.designs.specs.Grids.{grid_of, on_some};
 ghost use Rattle.designs.specs.Rows.{times};
 ghost use Rattle.partials.specs.Nodes.{partial_of};

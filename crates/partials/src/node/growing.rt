@@ -1,5 +1,4 @@
-ghost use Rattle.std.specs.Prelude.{◌≡◌, ℕ, ◌+◌, ◌<◌, ◌≤◌, [], ◌∷◌, ◌++◌, length, take, slice_index};
-ghost use Rattle.std.specs.List.{AllByRecursion as All};
+ghost use Rattle.std.specs.Prelude.{◌≡◌, ℕ, ◌+◌, ◌<◌, ◌≤◌, [], ◌∷◌, ◌++◌, length, take, slice_index, All};
 ghost use Rattle.designs.specs.Grids.{grid_of, on_some};
 ghost use Rattle.designs.specs.Readings.{rows_of, rows_named};
 ghost use Rattle.partials.specs.Nodes.{partial_of};

@@ -1,5 +1,4 @@
-ghost use Rattle.std.specs.Prelude.{◌≡◌, ℕ, ◌+◌, ◌<◌, ◌≤◌, not, [], ◌∷◌, ◌++◌, length, take, if◌then◌else◌};
-ghost use Rattle.std.specs.List.{AllByRecursion as All};
+ghost use Rattle.std.specs.Prelude.{◌≡◌, ℕ, ◌+◌, ◌<◌, ◌≤◌, not, [], ◌∷◌, ◌++◌, length, take, if◌then◌else◌, All};
 ghost use Rattle.designs.specs.Grids.{grid_of};
 ghost use Rattle.partials.specs.Nodes.{partial_of, rights_of};
 ghost use Rattle.partials.specs.Partials.{has, unplaced};

@@ -1,5 +1,5 @@
 use Rattle.std.proofs.Common.{◌<◌, ap, ◌∙◌}
-use Rattle.std.proofs.ByRecursion.{All-get_or}
+use Rattle.std.proofs.lemmas.List.Elements.{All-get_or}
 use Rattle.designs.specs.Cells.{crossing}
 use Rattle.designs.specs.Costs.{over_each}
 use Rattle.designs.specs.Grids.{grid_of, cell_in}

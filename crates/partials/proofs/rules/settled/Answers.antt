@@ -1,6 +1,5 @@
-use Rattle.std.proofs.Common.{◌+◌, ◌<◌, get_or, take, drop, sym, ap, ◌∙◌, subst, arith}
-use Rattle.std.specs.List.{AllByRecursion as All}
-use Rattle.std.proofs.ByRecursion.{All-get_or, All-drop}
+use Rattle.std.proofs.Common.{◌+◌, ◌<◌, get_or, take, drop, sym, ap, ◌∙◌, subst, arith, All}
+use Rattle.std.proofs.lemmas.List.Elements.{All-get_or, All-drop}
 use Rattle.designs.specs.Costs.{between, over_each}
 use Rattle.designs.specs.Grids.{grid_of, cell_in}
 use Rattle.designs.proofs.Loops.{start}

@@ -1,5 +1,4 @@
-use Rattle.std.proofs.Common.{◌<◌, sym, ap, ◌∙◌, subst}
-use Rattle.std.specs.List.{AllByRecursion as All}
+use Rattle.std.proofs.Common.{◌<◌, sym, ap, ◌∙◌, subst, All}
 use Rattle.designs.specs.Costs.{between, over_two}
 use Rattle.designs.specs.Grids.{grid_of, cell_in}
 use Rattle.designs.specs.Readings.{row_of}

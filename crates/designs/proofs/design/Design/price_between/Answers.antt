@@ -1,6 +1,5 @@
-use Rattle.std.proofs.Common.{◌+◌, ◌<◌, get_or, sym, ap, ◌∙◌, subst}
-use Rattle.std.proofs.ByRecursion.{All-get_or, All-drop}
-use Rattle.std.specs.List.{AllByRecursion as All}
+use Rattle.std.proofs.Common.{◌+◌, ◌<◌, get_or, sym, ap, ◌∙◌, subst, All}
+use Rattle.std.proofs.lemmas.List.Elements.{All-get_or, All-drop}
 use Rattle.designs.specs.Cells.{crossing}
 use Rattle.designs.specs.Costs.{over_each}
 use Rattle.designs.specs.Grids.{grid_of, cell_in}

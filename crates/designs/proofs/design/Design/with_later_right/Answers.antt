@@ -1,5 +1,5 @@
 use Rattle.std.proofs.Common.{◌<◌}
-use Rattle.std.proofs.ByRecursion.{All-get_or}
+use Rattle.std.proofs.lemmas.List.Elements.{All-get_or}
 use Rattle.designs.specs.Costs.{between, over_each}
 use Rattle.designs.specs.Grids.{grid_of, cell_in}
 use Rattle.designs.proofs.Loops.{start, each_turn, each_end}

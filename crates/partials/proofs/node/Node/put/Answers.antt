@@ -1,6 +1,5 @@
-use Rattle.std.proofs.Common.{◌<◌, [], ◌∷◌, ◌++◌, length, take, drop, sym, ap, ◌∙◌, subst, append_assoc, arith}
-use Rattle.std.specs.List.{AllByRecursion as All}
-use Rattle.std.proofs.ByRecursion.{All-take, All-drop}
+use Rattle.std.proofs.Common.{◌<◌, [], ◌∷◌, ◌++◌, length, take, drop, sym, ap, ◌∙◌, subst, append_assoc, arith, All}
+use Rattle.std.proofs.lemmas.List.Elements.{All-take, All-drop}
 use Rattle.partials.specs.Nodes.{partial_of}
 use Rattle.partials.proofs.Fronts.{placed-length, same_partial}
 use Rattle.partials.proofs.node.Node.put.Goals as goal

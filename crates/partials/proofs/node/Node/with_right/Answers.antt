@@ -1,5 +1,5 @@
 use Rattle.std.proofs.Common.{◌≡◌, ◌<◌, [], ◌∷◌, ◌++◌, get_or, IfSome, Some, sym, ap, ◌∙◌, subst, arith}
-use Rattle.std.proofs.ByRecursion.{All-get_or}
+use Rattle.std.proofs.lemmas.List.Elements.{All-get_or}
 use Rattle.designs.specs.Grids.{grid_of, on_some}
 use Rattle.designs.specs.Rows.{times}
 use Rattle.partials.specs.Nodes.{partial_of}
