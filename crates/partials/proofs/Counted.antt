@@ -1,7 +1,7 @@
 -- How many nodes are below a partial drawing.
 use Rattle.std.proofs.Common.{◌≡◌, ℕ, zero, suc, ◌+◌, ◌*◌, ◌<◌, ◌≤◌, ltb, List, [], ◌∷◌, ◌++◌, length, sym, refl, ap, ◌∙◌, ⊎_elim, suc-mul, zero-mul, arith, length-append, All}
 use Rattle.std.proofs.lemmas.List.{length_push, nil_from_length}
-use Rattle.std.proofs.lemmas.List.Elements.{All-append, All-weaker}
+use Rattle.std.proofs.lemmas.List.Elements.{All-append, All-weaker, All-head, All-tail}
 use Rattle.std.proofs.lemmas.Bool.{cond-true, cond-false, cases_eq, lt-ltb, le-ltb}
 use Rattle.designs.specs.Grids.{Grid}
 use Rattle.designs.specs.Rows.{times}
@@ -29,11 +29,11 @@ unplaced_count g p v = prefix_and_unplaced g p v.named v.once
 -- as many nodes below each
 under_same : (f : Partial → ℕ) (c : ℕ) (ps : List Partial) → All (λ p. f p ≡ c) ps → nodes_under f ps ≡ length ps * (1 + c)
 under_same f c [] h = sym (zero-mul (1 + c))
-under_same f c (p ∷ ps) h = let r = under_same f c ps h.1 in let e = h.0 in let m = suc-mul (length ps) (1 + c) in omega arith
+under_same f c (p ∷ ps) h = let r = under_same f c ps (All-tail (λ p. f p ≡ c) p ps h) in let e = All-head (λ p. f p ≡ c) p ps h in let m = suc-mul (length ps) (1 + c) in omega arith
 
 under_alike : (f h : Partial → ℕ) (ps : List Partial) → All (λ p. f p ≡ h p) ps → nodes_under f ps ≡ nodes_under h ps
 under_alike f h [] e = refl
-under_alike f h (p ∷ ps) e = let r = under_alike f h ps e.1 in let q = e.0 in omega arith
+under_alike f h (p ∷ ps) e = let r = under_alike f h ps (All-tail (λ p. f p ≡ h p) p ps e) in let q = All-head (λ p. f p ≡ h p) p ps e in omega arith
 
 placings-length : (i k : ℕ) (xs : List ℕ) → length (placings i k xs) ≡ suc i
 placings-length zero k xs = refl

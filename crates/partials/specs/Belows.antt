@@ -2,6 +2,7 @@
 use Rattle.std.specs.Prelude.{◌≡◌, ℕ, suc, ◌+◌, ◌<◌, ◌≤◌, Bool, true, false, List, [], ◌∷◌, length, filter, ◌≢◌, nat_lt, refl, All}
 use Rattle.std.proofs.Common.{sym, ap, ◌∙◌, ⊎_elim, arith}
 use Rattle.std.proofs.lemmas.Bool.{cases_Bool, cases_order, lt-ltb, le-ltb, ltb-true, cond-true, cond-false}
+use Rattle.std.proofs.lemmas.List.Elements.{All-head, All-tail}
 use Rattle.std.proofs.lemmas.Bool.Decides.{nat_tests}
 use Rattle.designs.specs.Rows.{times}
 use Rattle.partials.specs.Partials.{below}
@@ -29,14 +30,18 @@ kept_kept p q h (x ∷ xs) =
 
 pub kept_all : (p : ℕ → Bool) (xs : List ℕ) → All (λ x. p x ≡ true) xs → filter p xs ≡ xs
 kept_all p [] h = refl
-kept_all p (x ∷ xs) h = kept_yes p x xs h.0 ∙ ap (λ ys. x ∷ ys) (kept_all p xs h.1)
+kept_all p (x ∷ xs) h =
+    let P : ℕ → Type 0 = λ y. p y ≡ true in
+    kept_yes p x xs (All-head P x xs h) ∙ ap (λ ys. x ∷ ys) (kept_all p xs (All-tail P x xs h))
 
 pub below_below : (k m : ℕ) → k ≤ m → (xs : List ℕ) → below k (below m xs) ≡ below k xs
 below_below k m h xs = kept_kept (λ a. nat_lt a k) (λ a. nat_lt a m) (λ x e. lt-ltb x m (omega (arith, ltb-true x k e))) xs
 
 pub below_all : (k : ℕ) (xs : List ℕ) → All (λ a. a < k) xs → below k xs ≡ xs
 below_all k [] h = refl
-below_all k (x ∷ xs) h = kept_yes (λ a. nat_lt a k) x xs (lt-ltb x k h.0) ∙ ap (λ ys. x ∷ ys) (below_all k xs h.1)
+below_all k (x ∷ xs) h =
+    let P : ℕ → Type 0 = λ a. a < k in
+    kept_yes (λ a. nat_lt a k) x xs (lt-ltb x k (All-head P x xs h)) ∙ ap (λ ys. x ∷ ys) (below_all k xs (All-tail P x xs h))
 
 pub below_none : (xs : List ℕ) → below 0 xs ≡ []
 below_none [] = refl

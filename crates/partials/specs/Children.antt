@@ -3,7 +3,7 @@ use Rattle.std.specs.Prelude.{◌≡◌, ℕ, zero, suc, ◌+◌, ◌<◌, ◌�
 use Rattle.std.proofs.Common.{sym, ap, subst, ◌∙◌, inl, inr, ⊎_elim, arith, length-append}
 use Rattle.std.proofs.lemmas.List.{take-append-drop, length_push, length-take, take_more, take-take, take_at, take_all}
 use Rattle.std.proofs.lemmas.List.Elements.{filter-append}
-use Rattle.std.proofs.lemmas.List.Elements.{All-push, All-take, All-drop, all_kept_by, kept_by_passes, All-from_get_or, All-weaker}
+use Rattle.std.proofs.lemmas.List.Elements.{All-push, All-take, All-drop, All-filter, filter_passes, All-from_get_or, All-weaker, All-nil, All-cons, All-head, All-tail}
 use Rattle.std.proofs.lemmas.Bool.{cases_Bool, cases_eq, cases_lt, lt-ltb, le-ltb, ltb-true, ltb-false, cond-true, cond-false, not-true, not_from_false, or_parts, or_from, eqb-false, ne_eqb, both_ways, cond_both, and_from, and_parts, eq-eqb, eqb-true}
 use Rattle.designs.specs.Grids.{Grid}
 use Rattle.designs.specs.Readings.{TwoRows}
@@ -52,13 +52,13 @@ none_has v (x ∷ xs) h =
 
 -- the number order names the numbers below n
 below_order : (n : ℕ) → All (λ v. v < n) (number_order n)
-below_order zero = tt
+below_order zero = All-nil (λ v. v < 0)
 below_order (suc n) = All-push (λ v. v < suc n) (number_order n) n (All-weaker (λ v. v < n) (λ v. v < suc n) (λ v h. omega arith) (number_order n) (below_order n)) (omega arith)
 
 -- what is at least n is not named by numbers below n
 pub none_below : (n v : ℕ) (xs : List ℕ) → All (λ x. x < n) xs → n ≤ v → times v xs ≡ 0
 none_below n v [] h l = refl
-none_below n v (x ∷ xs) h l = times_else v x xs (λ e. omega (arith, h.0)) ∙ none_below n v xs h.1 l
+none_below n v (x ∷ xs) h l = times_else v x xs (λ e. omega (arith, All-head (λ x. x < n) x xs h)) ∙ none_below n v xs (All-tail (λ x. x < n) x xs h) l
 
 times_order : (n v : ℕ) → v < n → times v (number_order n) ≡ 1
 times_order zero v h = let no : ⊥ = omega arith in absurd no
@@ -76,7 +76,7 @@ number_order_order n = (length_from_once n (number_order n) (below_order n) (tim
 
 -- nothing placed is a partial drawing of every design, and every drawing completes it
 pub nothing_partial : (g : Grid) → PartialOf g nothing_placed
-nothing_partial g = record { placed = (refl, λ k h. let no : ⊥ = omega arith in absurd no); few = omega arith; early = λ _. refl; named = tt; once = λ v. omega arith }
+nothing_partial g = record { placed = (refl, λ k h. let no : ⊥ = omega arith in absurd no); few = omega arith; early = λ _. refl; named = All-nil (λ v. v < g.rights); once = λ v. omega arith }
 
 pub nothing_completed : (x : TwoRows) → Completes nothing_placed x
 nothing_completed x = (below_none x.left, refl)
@@ -94,8 +94,8 @@ times_kept p v h (x ∷ xs) =
     (cases_Bool (p x))
 
 all_both : {X : Type 0} (P Q : X → Type 0) (xs : List X) → All P xs → All Q xs → All (λ x. P x × Q x) xs
-all_both P Q [] h k = tt
-all_both P Q (x ∷ xs) h k = ((h.0, k.0), all_both P Q xs h.1 k.1)
+all_both P Q [] h k = All-nil (λ x. P x × Q x)
+all_both P Q (x ∷ xs) h k = All-cons (λ x. P x × Q x) x xs (All-head P x xs h, All-head Q x xs k) (all_both P Q xs (All-tail P x xs h) (All-tail Q x xs k))
 
 -- each unplaced switch is one of the design and not in the prefix, and each such switch is unplaced
 abbrev pub Free : Grid → Partial → ℕ → Type 0
@@ -106,8 +106,8 @@ all_free g p =
     let test : ℕ → Bool = λ v. not (has p.prefix v) in
     let xs = number_order g.rights in
     all_both (λ v. v < g.rights) (λ v. times v p.prefix ≡ 0) (filter test xs)
-    (all_kept_by test (λ v. v < g.rights) xs (below_order g.rights))
-    (All-weaker (λ v. test v ≡ true) (λ v. times v p.prefix ≡ 0) (λ v e. has_none v p.prefix (not-true (has p.prefix v) e)) (filter test xs) (kept_by_passes test xs))
+    (All-filter test (λ v. v < g.rights) xs (below_order g.rights))
+    (All-weaker (λ v. test v ≡ true) (λ v. times v p.prefix ≡ 0) (λ v e. has_none v p.prefix (not-true (has p.prefix v) e)) (filter test xs) (filter_passes test xs))
 
 pub free_named : (g : Grid) (p : Partial) (v : ℕ) → v < g.rights → times v p.prefix ≡ 0 → times v (unplaced g p) ≡ 1
 free_named g p v l h = times_kept (λ u. not (has p.prefix u)) v (not_from_false (has p.prefix v) (none_has v p.prefix h)) (number_order g.rights) ∙ times_order g.rights v l
@@ -117,7 +117,7 @@ free_below g p = All-weaker (Free g p) (λ v. v < g.rights) (λ v f. f.0) (unpla
 
 absent_free : (v : ℕ) (g : Grid) (p : Partial) (xs : List ℕ) → (times v p.prefix ≢ 0) → All (Free g p) xs → times v xs ≡ 0
 absent_free v g p [] ne h = refl
-absent_free v g p (x ∷ xs) ne h = times_else v x xs (λ e. ne (subst (λ y. times y p.prefix ≡ 0) e h.0.1)) ∙ absent_free v g p xs ne h.1
+absent_free v g p (x ∷ xs) ne h = times_else v x xs (λ e. ne (subst (λ y. times y p.prefix ≡ 0) e (All-head (Free g p) x xs h).1)) ∙ absent_free v g p xs ne (All-tail (Free g p) x xs h)
 
 pub none_unplaced : (g : Grid) (p : Partial) (v : ℕ) → (times v p.prefix ≢ 0) → times v (unplaced g p) ≡ 0
 none_unplaced g p v ne = absent_free v g p (unplaced g p) ne (all_free g p)
@@ -161,7 +161,7 @@ module _ (g : Grid) (p : Partial) (v : PartialOf g p) where
         );
         few = omega arith;
         early = λ h. refl;
-        named = tt;
+        named = All-nil (λ v. v < g.rights);
         once = λ u. omega arith;
       }
 
@@ -205,12 +205,12 @@ module _ (g : Grid) (p : Partial) (v : PartialOf g p) where
   drawn_completes whole = (below_all (length p.placed) p.placed small, take_all (length p.prefix) p.prefix (omega arith))
 
   all_placings : (P : Partial → Type 0) (i : ℕ) → ((j : ℕ) → j ≤ i → P (put j)) → All P (placings i (length p.placed) p.placed)
-  all_placings P zero h = (h 0 (omega arith), tt)
-  all_placings P (suc i) h = (h (suc i) (omega arith), all_placings P i (λ j l. h j (omega arith)))
+  all_placings P zero h = All-cons P (put 0) [] (h 0 (omega arith)) (All-nil P)
+  all_placings P (suc i) h = All-cons P (put (suc i)) (placings i (length p.placed) p.placed) (h (suc i) (omega arith)) (all_placings P i (λ j l. h j (omega arith)))
 
   all_addings : (P : Partial → Type 0) (us : List ℕ) → All (λ u. P (add u)) us → All P (addings p us)
-  all_addings P [] h = tt
-  all_addings P (u ∷ us) h = (h.0, all_addings P us h.1)
+  all_addings P [] h = All-nil P
+  all_addings P (u ∷ us) h = All-cons P (add u) (addings p us) (All-head (λ w. P (add w)) u us h) (all_addings P us (All-tail (λ w. P (add w)) u us h))
 
   -- what holds of each way to go on holds of the children
   pub all_children : (P : Partial → Type 0) → ((i : ℕ) → length p.placed < g.lefts → P (put i)) → ((u : ℕ) → length p.placed ≡ g.lefts → Free g p u → P (add u)) → All P (children g p)

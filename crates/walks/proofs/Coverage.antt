@@ -1,6 +1,6 @@
 -- Why the lower bound and 'done' are true: what a search keeps from node to node.
 use Rattle.std.proofs.Common.{◌≡◌, ℕ, zero, suc, ◌+◌, true, false, ◌⊎◌, List, [], ◌∷◌, ◌++◌, sym, refl, ◌∙◌, subst, inl, inr, ⊎_elim, All}
-use Rattle.std.proofs.lemmas.List.Elements.{All-append}
+use Rattle.std.proofs.lemmas.List.Elements.{All-append, All-nil, All-cons, All-head, All-tail}
 use Rattle.std.proofs.lemmas.Bool.{cond_both, cases_Bool}
 use Rattle.measures.specs.Amounts.{Kind, Lawful, AtMost}
 use Rattle.designs.specs.Grids.{Grid}
@@ -42,12 +42,13 @@ module _ {A : Type 0} (K : Kind A) (laws : Lawful K) (g : Grid) (cost : TwoRows 
   any_open P b (p ∷ ps) h = ⊎_elim (λ q. inl q) (λ q. inr (any_open P b ps q)) h
 
   all_opened : (P : Open A → Type 0) (b : A) (ps : List Partial) → All (λ p. P (record { node = p; inherited = b })) ps → All P (all_open b ps)
-  all_opened P b [] h = tt
-  all_opened P b (p ∷ ps) h = (h.0, all_opened P b ps h.1)
+  all_opened P b [] h = All-nil P
+  all_opened P b (p ∷ ps) h =
+      let Q : Partial → Type 0 = λ q. P (record { node = q; inherited = b }) in
+      All-cons P (record { node = p; inherited = b }) (all_open b ps) (All-head Q p ps h) (all_opened P b ps (All-tail Q p ps h))
 
   all_same : (P : Type 0) (ps : List Partial) → P → All (λ _. P) ps
-  all_same P [] h = tt
-  all_same P (p ∷ ps) h = (h, all_same P ps h)
+  all_same P ps h = λ k d l. h
 
   -- the children of a node, with a bound of the node
   children_sound : (p : Partial) (b : A) → PartialOf g p → ((x : TwoRows) → Completes p x → Completes root x)
@@ -71,7 +72,7 @@ module _ {A : Type 0} (K : Kind A) (laws : Lawful K) (g : Grid) (cost : TwoRows 
     within = c;
     priced = refl;
     nodes = cond_both (K.at_most (cost first) (answer root)) [] (all_open (answer root) (children g root)) (All Sound-open)
-        (λ e. tt)
+        (λ e. All-nil Sound-open)
         (λ e. children_sound root (answer root) v (λ x h. h) (bounds root));
     covered = λ x dx cx. cond_both (K.at_most (cost first) (answer root)) [] (all_open (answer root) (children g root)) (λ os. AtMost K (cost first) (cost x) ⊎ Any (λ o. Completes o.node x) os)
         (λ e. inl (laws.trans _ _ _ e (bounds root x dx cx)))
@@ -87,17 +88,22 @@ module _ {A : Type 0} (K : Kind A) (laws : Lawful K) (g : Grid) (cost : TwoRows 
   least_start b (o ∷ os) = laws.trans _ _ _ (least_start (lesser K b o.inherited) os) (lesser_left K laws b o.inherited)
 
   pub least_each : (b : A) (os : List (Open A)) → All (λ o. AtMost K (least_of K b os) o.inherited) os
-  least_each b [] = tt
-  least_each b (o ∷ os) = (laws.trans _ _ _ (least_start (lesser K b o.inherited) os) (lesser_right K laws b o.inherited), least_each (lesser K b o.inherited) os)
+  least_each b [] = All-nil (λ o. AtMost K (least_of K b []) o.inherited)
+  least_each b (o ∷ os) = All-cons (λ n. AtMost K (least_of K (lesser K b o.inherited) os) n.inherited) o os (laws.trans _ _ _ (least_start (lesser K b o.inherited) os) (lesser_right K laws b o.inherited)) (least_each (lesser K b o.inherited) os)
 
   pub least_over : (z b : A) (os : List (Open A)) → AtMost K z b → All (λ o. AtMost K z o.inherited) os → AtMost K z (least_of K b os)
   least_over z b [] h k = h
-  least_over z b (o ∷ os) h k = least_over z (lesser K b o.inherited) os (lesser_over K laws b o.inherited z h k.0) k.1
+  least_over z b (o ∷ os) h k =
+      let P : Open A → Type 0 = λ n. AtMost K z n.inherited in
+      least_over z (lesser K b o.inherited) os (lesser_over K laws b o.inherited z h (All-head P o os k)) (All-tail P o os k)
 
   -- an open node that a drawing completes bounds it
   any_bounded : (z : A) (x : TwoRows) → DrawingOf g x → (os : List (Open A)) → All Sound-open os → All (λ o. AtMost K z o.inherited) os → Any (λ o. Completes o.node x) os → AtMost K z (cost x)
   any_bounded z x d [] s l h = absurd h
-  any_bounded z x d (o ∷ os) s l h = ⊎_elim (λ c. laws.trans _ _ _ l.0 (s.0.bounded x d c)) (λ r. any_bounded z x d os s.1 l.1 r) h
+  any_bounded z x d (o ∷ os) s l h =
+      let P : Open A → Type 0 = λ n. AtMost K z n.inherited in
+      let here : Sound-open o = All-head Sound-open o os s in
+      ⊎_elim (λ c. laws.trans _ _ _ (All-head P o os l) (here.bounded x d c)) (λ r. any_bounded z x d os (All-tail Sound-open o os s) (All-tail P o os l) r) h
 
   -- no drawing below the root costs less than the lower bound
   pub no_drawing_below_the_bound : (w : Walk A) → Sound w → (x : TwoRows) → DrawingOf g x → Completes root x → AtMost K (lower_bound K w) (cost x)
@@ -162,10 +168,16 @@ module _ {A : Type 0} (K : Kind A) (laws : Lawful K) (g : Grid) (cost : TwoRows 
     bound = greater K o.inherited (answer o.node)
 
     node : Sound-open o
-    node = s.nodes.0
+    node = All-head Sound-open o rest s.nodes
+
+    others : All Sound-open rest
+    others = All-tail Sound-open o rest s.nodes
 
     over_all : All (λ n. AtMost K (lower_bound K before) n.inherited) (o ∷ rest)
     over_all = least_each least (o ∷ rest)
+
+    over_rest : All (λ n. AtMost K (lower_bound K before) n.inherited) rest
+    over_rest = All-tail (λ n. AtMost K (lower_bound K before) n.inherited) o rest over_all
 
     bounded : (x : TwoRows) → DrawingOf g x → Completes o.node x → AtMost K bound (cost x)
     bounded x d c = greater_under K laws o.inherited (answer o.node) (cost x) (node.bounded x d c) (bounds o.node x d c)
@@ -177,16 +189,16 @@ module _ {A : Type 0} (K : Kind A) (laws : Lawful K) (g : Grid) (cost : TwoRows 
         drawing = s.drawing;
         within = s.within;
         priced = s.priced;
-        nodes = s.nodes.1;
+        nodes = others;
         covered = λ x d c. ⊎_elim (λ h. inl h) (⊎_elim (λ q. inl (laws.trans _ _ _ e (bounded x d q))) (λ r. inr r)) (s.covered x d c);
       };
-      goes = record { cheaper = at_most_itself K laws least; higher = least_over (lower_bound K before) least rest (least_start least (o ∷ rest)) over_all.1 };
+      goes = record { cheaper = at_most_itself K laws least; higher = least_over (lower_bound K before) least rest (least_start least (o ∷ rest)) over_rest };
     }
 
     -- the node is a whole drawing
     whole : is_whole g o.node ≡ true → Step before (take_better K cost best least (opened + 1) rest (drawn o.node))
     whole w = better_step before (opened + 1) rest (drawn o.node) s (drawn_drawing g o.node node.valid w)
-        (node.under (drawn o.node) (drawn_completes g o.node node.valid w)) s.nodes.1 over_all.1
+        (node.under (drawn o.node) (drawn_completes g o.node node.valid w)) others over_rest
         (λ y d c. ⊎_elim (λ h. inl (inl h)) (⊎_elim (λ q. inl (inr (is_drawn g o.node node.valid y d q w))) (λ r. inr r)) (s.covered y d c))
 
     -- the node's children come first
@@ -199,7 +211,7 @@ module _ {A : Type 0} (K : Kind A) (laws : Lawful K) (g : Grid) (cost : TwoRows 
             drawing = s.drawing;
             within = s.within;
             priced = s.priced;
-            nodes = All-append Sound-open kids rest (children_sound o.node bound node.valid node.under bounded) s.nodes.1;
+            nodes = All-append Sound-open kids rest (children_sound o.node bound node.valid node.under bounded) others;
             covered = λ x d c. ⊎_elim (λ h. inl h)
                 (⊎_elim
                 (λ q. inr (any_left (λ n. Completes n.node x) kids rest (any_open (λ n. Completes n x) bound (children g o.node) (goes_on g o.node node.valid x d q w))))
@@ -210,8 +222,8 @@ module _ {A : Type 0} (K : Kind A) (laws : Lawful K) (g : Grid) (cost : TwoRows 
             cheaper = at_most_itself K laws least;
             higher = least_over floor least (kids ++ rest) (least_start least (o ∷ rest))
                 (All-append (λ n. AtMost K floor n.inherited) kids rest
-                (all_opened (λ n. AtMost K floor n.inherited) bound (children g o.node) (all_same (AtMost K floor bound) (children g o.node) (laws.trans _ _ _ over_all.0 (greater_left K laws o.inherited (answer o.node)))))
-                over_all.1);
+                (all_opened (λ n. AtMost K floor n.inherited) bound (children g o.node) (all_same (AtMost K floor bound) (children g o.node) (laws.trans _ _ _ (All-head (λ n. AtMost K (lower_bound K before) n.inherited) o rest over_all) (greater_left K laws o.inherited (answer o.node)))))
+                over_rest);
           };
         }
 

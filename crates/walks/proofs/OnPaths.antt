@@ -7,6 +7,7 @@ use Rattle.partials.specs.Partials.{Partial, PartialOf}
 use Rattle.partials.specs.Tree.{children, nth}
 use Rattle.partials.specs.Children.{put_valid, add_valid, all_children, length-put}
 use Rattle.std.proofs.lemmas.List.{length_push, length-take-le, take_more, take_more_set, take-take, take-append-drop}
+use Rattle.std.proofs.lemmas.List.Elements.{All-head, All-tail}
 use Rattle.walks.specs.Paths.{Deep, OnPath, open_at, open_on}
 use Rattle.walks.specs.Walk.{all_open}
 use Rattle.walks.specs.declared.level.Level.{Level}
@@ -43,8 +44,8 @@ nth_none (y ∷ ys) (suc i) e = nth_none ys i e
 
 pub nth_all : {X : Type 0} (P : X → Type 0) (xs : List X) (i : ℕ) (x : X) → All P xs → nth xs i ≡ Some x → P x
 nth_all P [] i x h e = let no : ◌≡◌ {A = ℕ} 0 1 = cc in absurd (omega (arith, no))
-nth_all P (y ∷ ys) zero x h e = let s : y ≡ x = cc in subst P s h.0
-nth_all P (y ∷ ys) (suc i) x h e = nth_all P ys i x h.1 e
+nth_all P (y ∷ ys) zero x h e = let s : y ≡ x = cc in subst P s (All-head P y ys h)
+nth_all P (y ∷ ys) (suc i) x h e = nth_all P ys i x (All-tail P y ys h) e
 
 -- a child has one switch more placed
 pub child_deep : (g : Grid) (l : ℕ) (p : Partial) → Deep g l p → All (Deep g (l + 1)) (children g p)

@@ -1,6 +1,7 @@
 -- A search opens no more nodes than the tree has.
 use Rattle.std.proofs.Common.{◌≡◌, ℕ, ◌+◌, ◌≤◌, List, [], ◌∷◌, ◌++◌, refl, arith, All}
 use Rattle.std.proofs.lemmas.Bool.{cond_both}
+use Rattle.std.proofs.lemmas.List.Elements.{All-head}
 use Rattle.measures.specs.Amounts.{Kind}
 use Rattle.designs.specs.Grids.{Grid}
 use Rattle.designs.specs.Readings.{TwoRows}
@@ -43,7 +44,7 @@ module _ {A : Type 0} (K : Kind A) (g : Grid) (cost : TwoRows → A) (answer : P
 
   first_counted : (best : TwoRows) (least : A) (n : ℕ) (os : List (Open A)) → All (λ o. PartialOf g o.node) os → reach (open_first K g cost answer best least n os) ≤ n + weight g os
   first_counted best least n [] h = omega arith
-  first_counted best least n (o ∷ os) h = omega (arith, visit_counted best least (n + 1) (greater K o.inherited (answer o.node)) o.node h.0 os)
+  first_counted best least n (o ∷ os) h = omega (arith, visit_counted best least (n + 1) (greater K o.inherited (answer o.node)) o.node (All-head (λ n. PartialOf g n.node) o os h) os)
 
   pub open_one_counted : (w : Walk A) → All (λ o. PartialOf g o.node) w.frontier → reach (open_one K g cost answer w) ≤ reach w
   open_one_counted w h = first_counted w.incumbent w.least w.opened w.frontier h

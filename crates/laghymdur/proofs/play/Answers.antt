@@ -1,4 +1,4 @@
-use Rattle.std.proofs.Common.{◌≡◌, ℕ, ◌≤◌, List, ◌++◌, length, drop, ap, ◌∙◌, arith, length-append, length-drop}
+use Rattle.std.proofs.Common.{◌≡◌, ℕ, ◌≤◌, List, length, drop, ap, ◌∙◌, arith, length-append, length-drop}
 use Rattle.sessions.specs.Texts.{written_on}
 use Rattle.laghymdur.proofs.play.Goals as goal
 
