@@ -7,6 +7,6 @@ mod costs;
 #[cfg(test)]
 mod limits;
 #[cfg(test)]
-mod scripts;
+mod playing;
 #[cfg(test)]
 mod sheet;
