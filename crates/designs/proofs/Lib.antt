@@ -2,7 +2,6 @@ pub mod Blank
 pub mod Crossed
 pub mod Drawn
 pub mod Joined
-pub mod Linked
 pub mod Loops
 pub mod Names
 pub mod Orders

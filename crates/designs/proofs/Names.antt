@@ -1,6 +1,6 @@
 -- Rows from their names: the names filled up with 255, and what the test of an order decides.
-use Rattle.std.proofs.Common.{◌≡◌, ℕ, zero, suc, ◌+◌, ◌-◌, ◌<◌, ◌≤◌, Bool, true, false, ◌&&◌, eqb, List, [], ◌∷◌, ◌++◌, length, get_or, take, set, replicate, Decides, sym, refl, ◌∙◌, arith}
-use Rattle.std.proofs.lemmas.List.{append_assoc, length-take-le, set_at, take_at, take_more, drop_at}
+use Rattle.std.proofs.Common.{◌≡◌, ℕ, zero, suc, Bool, true, false, ◌&&◌, eqb, List, ◌++◌, length, replicate, Decides, refl}
+use Rattle.std.proofs.lemmas.List.{take_at, drop_at}
 use Rattle.std.proofs.lemmas.Bool.{eq-eqb}
 use Rattle.std.proofs.lemmas.Bool.Decides.{Decides-and, Decides-eqb}
 use Rattle.designs.specs.Rows.{Order, each_once, all_255, is_order, is_row}
@@ -8,15 +8,6 @@ use Rattle.designs.proofs.Orders.{decides_each_once}
 
 pub decides_order : (n : ℕ) (xs : List ℕ) → Decides (is_order n xs) (Order n xs)
 decides_order n xs = Decides-and (eqb (length xs) n) (each_once n xs) (Decides-eqb (length xs) n) (decides_each_once n xs)
-
--- one name more of those that are filled up with 255 to m bytes
-pub filled_more : (xs : List ℕ) (k m : ℕ) → k < length xs → length xs ≤ m
-    → set (take k xs ++ replicate (m - k) 255) k (get_or xs k 0) ≡ take (k + 1) xs ++ replicate (m - (k + 1)) 255
-filled_more xs k m l h =
-    let e : m - k ≡ suc (m - (k + 1)) = omega arith in
-    let rest : List ℕ = replicate (m - (k + 1)) 255 in
-    let x = get_or xs k 0 in
-    rw (e, take_more xs k 0 l) (set_at (take k xs) 255 rest x k (length-take-le k xs (omega arith)) ∙ sym (append_assoc (take k xs) (x ∷ []) rest))
 
 all_filler : (m : ℕ) → all_255 (replicate m 255) ≡ true
 all_filler zero = refl

@@ -1,10 +1,11 @@
 -- Orders of switches: how often each is named, what the tests of a row decide, and the number order.
-use Rattle.std.proofs.Common.{◌≡◌, ℕ, zero, suc, ◌+◌, ◌-◌, ◌<◌, ◌≤◌, Bool, true, false, cond, eqb, ltb, List, [], ◌∷◌, ◌++◌, length, get_or, take, drop, set, replicate, Decides, sym, refl, ◌∙◌, subst, inl, inr, add-one, arith}
-use Rattle.std.specs.List.{ContainsAt, All}
+use Rattle.std.proofs.Common.{◌≡◌, ℕ, zero, suc, ◌+◌, ◌-◌, ◌<◌, ◌≤◌, Bool, true, false, cond, eqb, ltb, List, [], ◌∷◌, ◌++◌, length, get_or, take, drop, replicate, Decides, sym, refl, ◌∙◌, subst, inl, inr, arith}
+use Rattle.std.specs.List.{All, list_all, list_any, range_with_len}
 use Rattle.std.proofs.lemmas.List.Elements.{All-nil, All-cons, All-head, All-tail, All-get_or, All-from_get_or}
-use Rattle.std.proofs.lemmas.List.{append_assoc, length-append, length-replicate, length-drop, length-take-le, length_push, get_or-drop, get_or-take, get_or-append_right, get_or-replicate, set_at, take_at}
-use Rattle.std.proofs.lemmas.Bool.{cases_eq, cases_Bool, ne_eqb}
-use Rattle.std.proofs.lemmas.Bool.Decides.{nat_tests, Decides-eqb, Decides-and, Decides-like, Decides-below_and, Decides-by_and}
+use Rattle.std.proofs.lemmas.List.{length-append, length-replicate, length-drop, length-take-le, length_push, get_or-drop, get_or-take, get_or-append_right, get_or-replicate, take_at}
+use Rattle.std.proofs.lemmas.Bool.{cases_eq}
+use Rattle.std.proofs.lemmas.List.FromFn.{length-range_with_len, get_or-range_with_len}
+use Rattle.std.proofs.lemmas.Bool.Decides.{nat_tests, same_from_decides, Decides-eqb, Decides-and, Decides-like, Decides-below_and, Decides-by_and}
 use Rattle.designs.specs.Rows.{times, Order, RowBytes, each_once, all_255, is_row, number_order}
 
 -- how often the switches below n are named
@@ -92,37 +93,31 @@ order_from_names n xs e a h = (e, named_full n xs h (named_all n xs a ∙ e))
 pub length_from_once : (n : ℕ) (xs : List ℕ) → All (λ x. x < n) xs → ((k : ℕ) → k < n → times k xs ≡ 1) → length xs ≡ n
 length_from_once n xs a h = sym (named_all n xs a) ∙ named_once n xs h
 
-times-get_or : (xs : List ℕ) (i : ℕ) → i < length xs → 1 ≤ times (get_or xs i 0) xs
-times-get_or [] i l = absurd (omega arith)
-times-get_or (x ∷ xs) zero l = grind (arith, nat_tests)
-times-get_or (x ∷ xs) (suc i) l = omega (arith, times-get_or xs i (omega arith))
-
-has_from_times : (x : ℕ) (xs : List ℕ) → 1 ≤ times x xs → ContainsAt xs x
-has_from_times x [] h = absurd (omega arith)
-has_from_times x (y ∷ ys) h = elim (cases_eq y x) [
-  | inl e ↦ (0, omega arith, λ d. e)
-  | inr e ↦ let r = has_from_times x ys (omega (arith, rw (ne_eqb y x e) at h)) in (suc r.0, omega (arith, r.1), r.2)
-]
-
--- a search tells whether a switch is named
-pub decides_named : (x : ℕ) (xs : List ℕ) (r : Bool) → Decides r (ContainsAt xs x) → Decides r (1 ≤ times x xs)
-decides_named x xs r =
-    Decides-like r (λ h. rw (h.2 0) at (times-get_or xs h.0 h.1)) (has_from_times x xs)
-
 -- what the tests of a row decide
 pub decides_each_once : (n : ℕ) (xs : List ℕ) → Decides (each_once n xs) ((k : ℕ) → k < n → times k xs ≡ 1)
 decides_each_once n xs =
     Decides-below_and (λ k. eqb (times k xs) 1) (λ k. times k xs ≡ 1) (λ m. each_once m xs) (λ k. Decides-eqb (times k xs) 1) refl (λ _. refl) n
 
--- a switch that is not named, and all named
-pub each_once_false : (n : ℕ) (xs : List ℕ) (k : ℕ) → k < n → (1 ≤ times k xs → ⊥) → false ≡ each_once n xs
-each_once_false n xs k l un = elim (cases_Bool (each_once n xs)) [
-  | inl e ↦ absurd (un (omega (arith, (decides_each_once n xs).0 e k l)))
-  | inr e ↦ sym e
-]
+decides_any : (k : ℕ) (xs : List ℕ) → Decides (list_any (λ y. eqb y k) xs) (1 ≤ times k xs)
+decides_any k [] = (λ e. absurd (no e), λ h. absurd (omega arith)) where
+  no : false ≡ true → ⊥
+  no e = cc
+decides_any k (y ∷ ys) = let h = decides_any k ys in grind (arith, nat_tests)
 
-pub each_once_true : (xs : List ℕ) → ((k : ℕ) → k < length xs → 1 ≤ times k xs) → true ≡ each_once (length xs) xs
-each_once_true xs h = sym ((decides_each_once (length xs) xs).1 (once_from_some (length xs) xs refl h))
+-- where each switch below the length is among the names, each is there once
+pub all_named : (xs : List ℕ) → list_all (λ k. list_any (λ y. eqb y k) xs) (range_with_len 0 (length xs)) ≡ each_once (length xs) xs
+all_named xs =
+    let n = length xs in
+    let test : ℕ → Bool = λ k. list_any (λ y. eqb y k) xs in
+    let range = range_with_len 0 n in
+    let nth : (k : ℕ) → k < n → get_or range k 0 ≡ k = λ k l. get_or-range_with_len 0 n k 0 l ∙ omega arith in
+    let each : Decides (list_all test range) (All (λ k. 1 ≤ times k xs) range) = Decides-by_and test (λ k. 1 ≤ times k xs) (list_all test) (λ k. decides_any k xs) refl (λ _ _. refl) range in
+    same_from_decides (list_all test range) (each_once n xs)
+    (Decides-like (list_all test range)
+    (λ a. once_from_some n xs refl (λ k l. rw (nth k l) at (All-get_or (λ j. 1 ≤ times j xs) range k 0 (rw length-range_with_len l) a)))
+    (λ h. All-from_get_or (λ j. 1 ≤ times j xs) range 0 (λ k l. let m : k < n = rw length-range_with_len at l in rw (nth k m) (omega (arith, h k m))))
+    each)
+    (decides_each_once n xs)
 
 decides_all_255 : (bs : List ℕ) → Decides (all_255 bs) (All (λ b. b ≡ 255) bs)
 decides_all_255 bs =
@@ -150,7 +145,7 @@ length-number_order : (n : ℕ) → length (number_order n) ≡ n
 length-number_order zero = refl
 length-number_order (suc n) = length_push (number_order n) n ∙ omega (arith, length-number_order n)
 
-times-append : (k : ℕ) (xs ys : List ℕ) → times k (xs ++ ys) ≡ times k xs + times k ys
+pub times-append : (k : ℕ) (xs ys : List ℕ) → times k (xs ++ ys) ≡ times k xs + times k ys
 times-append k [] ys = omega arith
 times-append k (x ∷ xs) ys = omega (arith, times-append k xs ys)
 
@@ -161,15 +156,8 @@ times-number_order k (suc n) =
     let h = times-number_order k n in
     grind (arith, nat_tests)
 
-number_order_is : (n : ℕ) → Order n (number_order n)
-number_order_is n = (length-number_order n, λ k l. let e = times-number_order k n in grind (arith, nat_tests))
-
--- the number order of the first k, filled up with 255 to m bytes
-pub number_order_more : (k m : ℕ) → k < m → set (number_order k ++ replicate (m - k) 255) k k ≡ number_order (k + 1) ++ replicate (m - (k + 1)) 255
-number_order_more k m l =
-    let e : m - k ≡ suc (m - suc k) = omega arith in
-    let rest = replicate (m - suc k) 255 in
-    rw (e, add-one) (set_at (number_order k) 255 rest k k (length-number_order k) ∙ sym (append_assoc (number_order k) (k ∷ []) rest))
+pub number_order_order : (n : ℕ) → Order n (number_order n)
+number_order_order n = (length-number_order n, λ k l. let e = times-number_order k n in grind (arith, nat_tests))
 
 pub take-number_order : (n m : ℕ) → take n (number_order n ++ replicate m 255) ≡ number_order n
 take-number_order n m = take_at (number_order n) (replicate m 255) n (length-number_order n)
@@ -178,7 +166,7 @@ pub number_order_row : (n : ℕ) → n ≤ 24 → RowBytes n (number_order n ++ 
 number_order_row n l =
     let e = length-number_order n in (
       simp (length-append, length-replicate) (omega arith),
-      rw take-number_order (number_order_is n),
+      rw take-number_order (number_order_order n),
       λ k h m. get_or-append_right (number_order n) (replicate (24 - n) 255) n k 0 e h ∙ get_or-replicate (24 - n) (k - n) 255 0 (omega arith),
     )
 

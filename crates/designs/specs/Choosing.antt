@@ -9,7 +9,7 @@ use Rattle.designs.specs.declared.fault.Layer.TheVariants.{Script, Search}
 use Rattle.designs.specs.declared.fault.RowFault.{RowFault}
 use Rattle.designs.specs.declared.choosing.PartFault.{PartFault}
 use Rattle.designs.specs.declared.choosing.PartFault.TheVariants.{Length, InRow}
-use Rattle.designs.specs.declared.choosing.ChoiceFault.{ChoiceFault}
+use Rattle.designs.specs.declared.fault.Placed.{Placed}
 use Rattle.designs.specs.declared.comparing.Comparison.{Comparison}
 use Rattle.designs.specs.declared.comparing.Comparison.TheVariants.{Fewer, Alike, More}
 
@@ -22,7 +22,7 @@ abbrev pub read_part : Grid → List ℕ → Result TwoRows PartFault
 read_part g bs = cond (length bs == 48) (in_row (read_rows g bs)) (Err Length)
 
 -- the cheaper of two parts, the first on a tie; a fault of the first part comes before one of the second
-abbrev pub choice : {A P : Type 0} → Kind A → (TwoRows → A) → Result TwoRows PartFault → Result TwoRows PartFault → P → P → Result P ChoiceFault
+abbrev pub choice : {A P : Type 0} → Kind A → (TwoRows → A) → Result TwoRows PartFault → Result TwoRows PartFault → P → P → Result P (Placed PartFault)
 choice K cost (Err e) second p q = Err (record { cause = e; place = 0 })
 choice K cost (Ok x) (Err e) p q = Err (record { cause = e; place = 1 })
 choice K cost (Ok x) (Ok y) p q = Ok (cond (K.at_most (cost x) (cost y)) p q)

@@ -1,9 +1,11 @@
 -- Designs as values: two sizes and the cells, and what a link does.
-use Rattle.std.specs.Prelude.{◌≡◌, ℕ, ◌+◌, ◌<◌, Bool, cond, ◌&&◌, ◌||◌, replicate, Some, None, Ok, Err, Option, Result, ◌==◌, nat_le, nat_lt, slice_set}
+use Rattle.std.specs.Prelude.{◌≡◌, ℕ, ◌+◌, ◌<◌, cond, ◌&&◌, ◌||◌, replicate, Ok, Err, Result, ◌==◌, nat_le, nat_lt, slice_set}
+use Rattle.measures.specs.Classes.{class_numbered}
 use Rattle.measures.specs.Prices.{is_trunk}
 use Rattle.measures.specs.declared.link.Class.{Class}
 use Rattle.measures.specs.declared.link.Class.TheVariants.{Ordinary, Trunk}
 use Rattle.designs.specs.Cells.{index, cell_at}
+use Rattle.designs.specs.Sides.{is_size}
 use Rattle.designs.specs.declared.cell.Cell.{Cell}
 use Rattle.designs.specs.declared.cell.Cells.{Cells}
 use Rattle.designs.specs.declared.design.Design.{Design}
@@ -18,7 +20,7 @@ pub record Grid : Type 0 where
   pub cells : Cells
 
 abbrev pub grid_of : Design → Grid
-grid_of d = record { lefts = d.left; rights = d.right; cells = d.cells }
+grid_of d = record { lefts = d.left.count; rights = d.right.count; cells = d.cells }
 
 -- the cell of a left and a right switch
 abbrev pub cell_in : Grid → ℕ → ℕ → Cell
@@ -28,22 +30,8 @@ cell_in g = cell_at g.cells
 unfoldable pub no_links : ℕ → ℕ → Grid
 no_links n m = record { lefts = n; rights = m; cells = record { strands = replicate 576 0; classes = replicate 576 Ordinary } }
 
-abbrev pub is_size : ℕ → Bool
-is_size n = nat_le 1 n && nat_le n 24
-
-abbrev pub on_ok : {X Y E : Type 0} → (X → Y) → Result X E → Result Y E
-on_ok f (Ok x) = Ok (f x)
-on_ok f (Err e) = Err e
-
-abbrev pub on_some : {X Y : Type 0} → (X → Y) → Option X → Option Y
-on_some f (Some x) = Some (f x)
-on_some f None = None
-
 abbrev pub sized : ℕ → ℕ → Result Grid DesignFault
 sized n m = cond (is_size n && is_size m) (Ok (no_links n m)) (Err Size)
-
-abbrev pub class_numbered : ℕ → Class
-class_numbered c = cond (c == 0) Ordinary Trunk
 
 -- whether a link may be put in: the first fault in the order of the checks, or its class
 abbrev pub link_check : Grid → ℕ → ℕ → ℕ → ℕ → Result Class LinkFault

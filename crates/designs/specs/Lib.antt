@@ -2,6 +2,9 @@ pub mod Cells
 pub mod Rows
 pub mod Crossings
 pub mod Costs
+pub mod Joins
+pub mod Results
+pub mod Sides
 pub mod Grids
 pub mod Readings
 pub mod Faults

@@ -15,7 +15,7 @@ pub record TwoRows : Type 0 where
   pub right : List ℕ
 
 abbrev pub row_of : Row → List ℕ
-row_of r = take r.size r.switches
+row_of r = take r.size.count r.switches
 
 abbrev pub rows_of : Drawing → TwoRows
 rows_of x = record { left = row_of x.left; right = row_of x.right }

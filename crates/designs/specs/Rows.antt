@@ -1,5 +1,6 @@
 -- Rows: orders of the switches of one side.
 use Rattle.std.specs.Prelude.{◌≡◌, ℕ, zero, suc, ◌+◌, ◌<◌, ◌≤◌, Bool, true, cond, ◌&&◌, List, [], ◌∷◌, ◌++◌, length, take, drop, ◌==◌, nat_lt, slice_index}
+use Rattle.std.specs.List.{list_all}
 
 -- how often x is named
 abbrev pub times : ℕ → List ℕ → ℕ
@@ -20,8 +21,7 @@ each_once zero xs = true
 each_once (suc k) xs = times k xs == 1 && each_once k xs
 
 abbrev pub all_255 : List ℕ → Bool
-all_255 [] = true
-all_255 (b ∷ bs) = b == 255 && all_255 bs
+all_255 bs = list_all (λ b. b == 255) bs
 
 abbrev pub is_row : ℕ → List ℕ → Bool
 is_row n bs = each_once n (take n bs) && all_255 (drop n bs)

@@ -1,16 +1,17 @@
 ghost use Rattle.std.specs.Prelude.{◌≡◌};
 ghost use Rattle.designs.specs.Choosing.{read_part, choice, part_number, part_layer};
-ghost use Rattle.designs.specs.Grids.{grid_of, on_ok};
+ghost use Rattle.designs.specs.Grids.{grid_of};
+ghost use Rattle.designs.specs.Results.{on_ok};
 ghost use Rattle.designs.specs.Readings.{rows_of, cost_of};
 ghost use Rattle.designs.specs.declared.choosing.PartFault.TheVariants.{InRow};
 
 use crate::design::Design;
 use crate::drawing::Drawing;
-use crate::fault::{Layer, RowFault};
+use crate::fault::{Layer, Placed, RowFault, at_place};
 use measures::amount::Amount;
 use measures::measure::Measure;
 
-// Why a part is no drawing of the design.
+// Why a part is no drawing of the design. A part's layer and number are those of its cause, which no discriminant can say.
 #[derive(Clone, Copy, PartialEq, Eq, Debug)]
 pub enum PartFault {
     Length,
@@ -18,11 +19,7 @@ pub enum PartFault {
 }
 
 // A part's fault, and which part it is: 0 or 1.
-#[derive(Clone, Copy, PartialEq, Eq, Debug)]
-pub struct ChoiceFault {
-    pub cause: PartFault,
-    pub place: usize,
-}
+pub type ChoiceFault = Placed<PartFault>;
 
 impl From<RowFault> for PartFault {
     ghost from_gives = { λ f r. r ≡ InRow f };
@@ -71,14 +68,8 @@ pub fn choose<'a, M: Measure>(
 ) -> Result<&'a [u8], ChoiceFault>
     ensures { result ≡ choice M.Amount.Amount.kind (cost_of M.Amount.Amount.kind M.Measure.priced (grid_of design.now)) (read_part (grid_of design.now) first.now) (read_part (grid_of design.now) second.now) first.entry second.entry }
 {
-    let one = match read_part(design, first) {
-        Ok(drawing) => drawing,
-        Err(cause) => return Err(ChoiceFault { cause, place: 0 }),
-    };
-    let two = match read_part(design, second) {
-        Ok(drawing) => drawing,
-        Err(cause) => return Err(ChoiceFault { cause, place: 1 }),
-    };
+    let one = at_place(read_part(design, first), 0)?;
+    let two = at_place(read_part(design, second), 1)?;
     let keeps_first = design.cost::<M>(&one).is_at_most(design.cost::<M>(&two));
     if keeps_first { Ok(first) } else { Ok(second) }
 }

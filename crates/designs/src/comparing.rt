@@ -4,7 +4,8 @@ ghost use Rattle.designs.specs.Choosing.{compared};
 use measures::amount::Amount;
 use measures::measure::Measure;
 
-// How a first amount compares with a second.
+// How a first amount compares with a second. The three words are the planners' own: `Ordering` would say `Less` for fewer,
+// which is no plainer.
 #[derive(Clone, Copy, PartialEq, Eq, Debug)]
 pub enum Comparison {
     Fewer,

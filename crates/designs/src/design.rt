@@ -3,6 +3,7 @@ ghost use Rattle.measures.specs.Prices.{is_trunk};
 ghost use Rattle.measures.specs.declared.link.Class.TheVariants.{Ordinary};
 
 use crate::cell::Cells;
+use crate::side::SideSize;
 
 pub mod linking;
 pub mod pricing;
@@ -12,11 +13,9 @@ pub mod reading;
 // A cell has at most 255 strands, and without strands it is ordinary.
 #[derive(Clone, Copy)]
 pub struct Design {
-    left: u8,
-    right: u8,
+    left: SideSize,
+    right: SideSize,
     cells: Cells,
-    ghost lefts: { (1 ≤ left) × (left ≤ 24) },
-    ghost rights: { (1 ≤ right) × (right ≤ 24) },
     ghost whole: { (length cells.strands ≡ 576) × (length cells.classes ≡ 576) },
     ghost bytes: { (k : ℕ) → slice_index cells.strands k < 256 },
     ghost quiet: { (k : ℕ) → slice_index cells.strands k ≡ 0 → is_trunk (slice_index_or cells.classes k Ordinary) ≡ false },

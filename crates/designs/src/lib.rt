@@ -6,4 +6,6 @@ pub mod comparing;
 pub mod design;
 pub mod drawing;
 pub mod fault;
+pub mod joining;
 pub mod row;
+pub mod side;

@@ -1,16 +1,18 @@
 ghost use Rattle.std.specs.Prelude.{◌≡◌, ℕ, ◌<◌, ◌≤◌, length, take, slice_index};
 ghost use Rattle.designs.specs.Rows.{times};
 
+use crate::side::SideSize;
+
 pub mod reading;
 
-// An order of the switches of one side, filled up with 255 to 24 bytes.
+// An order of the switches of one side, filled up with 255 to 24 bytes. Memory is fixed (no call uses the heap), and these
+// are the bytes as a script has them, so the size stands beside them.
 #[derive(Clone, Copy)]
 pub struct Row {
-    size: u8,
+    size: SideSize,
     switches: [u8; 24],
-    ghost sized: { (1 ≤ size) × (size ≤ 24) },
     ghost whole: { length switches ≡ 24 },
-    ghost once: { (k : ℕ) → k < size → times k (take size switches) ≡ 1 },
-    ghost filled: { (k : ℕ) → size ≤ k → k < 24 → slice_index switches k ≡ 255 },
-    ghost below: { (k : ℕ) → k < size → slice_index switches k < size },
+    ghost once: { (k : ℕ) → k < size.count → times k (take size.count switches) ≡ 1 },
+    ghost filled: { (k : ℕ) → size.count ≤ k → k < 24 → slice_index switches k ≡ 255 },
+    ghost below: { (k : ℕ) → k < size.count → slice_index switches k < size.count },
 }

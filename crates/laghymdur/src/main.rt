@@ -6,10 +6,11 @@ use std::io;
 use std::io::{Read, Write};
 
 // Reads a script, one byte more than the longest at most, so that a longer one is seen to be too long.
-fn read_script(rt: &HostRuntime, script: &mut Vec<u8>) -> io::Result<()> {
+fn read_script(rt: &HostRuntime) -> io::Result<Vec<u8>> {
     let most = LONGEST as u64 + 1;
-    rt.stdin().take(most).read_to_end(script)?;
-    Ok(())
+    let mut script = Vec::new(rt.alloc());
+    rt.stdin().take(most).read_to_end(&mut script)?;
+    Ok(script)
 }
 
 // Plays the script call after call, and writes each line as it comes.
@@ -18,21 +19,16 @@ fn play(rt: &HostRuntime, script: &[u8]) -> io::Result<()> {
     let mut session = Session::new();
     let mut line = [0u8; LINE];
     let mut at = 0;
+    // Each answer says where the next command starts, so no range or iterator gives the places.
     while at < script.len() {
         let answer = session.call(script, at, &mut line);
-        let wrote = answer.wrote;
-        out.write_all(&line[0..wrote])?;
+        out.write_all(&line[..answer.wrote])?;
         at = answer.next;
     }
     Ok(())
 }
 
-fn run(rt: &HostRuntime) -> io::Result<()> {
-    let mut script = Vec::new(rt.alloc());
-    read_script(rt, &mut script)?;
-    play(rt, script.as_slice())
-}
-
 fn main(rt: HostRuntime) -> io::Result<()> {
-    run(&rt)
+    let script = read_script(&rt)?;
+    play(&rt, &script)
 }

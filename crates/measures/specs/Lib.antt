@@ -1,11 +1,11 @@
+pub mod Classes
 pub mod Amounts
 pub mod Sums
 pub mod Pairs
 pub mod Prices
-pub mod Lines
+pub mod Unbroken
 pub mod Writings
 pub mod PairLaws
 pub mod Same
 pub mod SumLaws
-pub mod Digits
-pub mod LinesLemmas
+pub mod WritingLaws

@@ -1,7 +1,6 @@
 #![tactic(auto)]
 
 pub mod amount;
-pub mod line;
 pub mod link;
 pub mod measure;
 pub mod pair;

@@ -1,5 +1,6 @@
 ghost use Rattle.std.specs.Prelude.{◌≡◌};
-ghost use Rattle.measures.specs.Prices.{is_trunk};
+ghost use Rattle.measures.specs.Prices.{is_trunk, product};
+ghost use Rattle.measures.specs.Classes.{read_class};
 
 // The class of a link.
 #[derive(Clone, Copy, PartialEq, Eq, Debug)]
@@ -8,14 +9,30 @@ pub enum Class {
     Trunk,
 }
 
+// A number that names no class.
+#[derive(Clone, Copy, PartialEq, Eq, Debug)]
+pub struct UnknownClass;
+
+// Scripts name an ordinary link's class 0 and a trunk's 1.
+impl TryFrom<u8> for Class {
+    type Error = UnknownClass;
+
+    ghost try_from_gives = { λ number r. r ≡ read_class number };
+
+    fn try_from(number: u8) -> Result<Class, UnknownClass> {
+        match number {
+            0 => Ok(Class::Ordinary),
+            1 => Ok(Class::Trunk),
+            _ => Err(UnknownClass),
+        }
+    }
+}
+
 impl Class {
     pub fn is_trunk(self) -> bool
         ensures { result ≡ is_trunk self }
     {
-        match self {
-            Class::Ordinary => false,
-            Class::Trunk => true,
-        }
+        self == Class::Trunk
     }
 }
 
@@ -24,4 +41,13 @@ impl Class {
 pub struct Link {
     pub strands: u8,
     pub class: Class,
+}
+
+impl Link {
+    // The product of the strands.
+    pub(crate) fn product(self, other: Link) -> u64
+        ensures { result ≡ product self other }
+    {
+        u64::from(self.strands) * u64::from(other.strands)
+    }
 }

@@ -1,23 +1,25 @@
-ghost use Rattle.std.specs.Prelude.{◌≡◌, ℕ, ◌+◌, ◌<◌, ◌≤◌, List, length};
-ghost use Rattle.measures.specs.Lines.{over, NoSpace};
+ghost use Rattle.std.specs.Prelude.{◌≡◌, ℕ, ◌<◌, ◌≤◌, List, length};
+ghost use Rattle.measures.specs.Unbroken.{NoSpace};
 ghost use Rattle.measures.specs.declared.link.Link.{Link};
 
 use crate::amount::Amount;
 use crate::link::Link;
+use arrayvec::ArrayString;
 
-// What a crossing of two links costs, and in which kind of amount it is counted.
+// The longest amount has this many bytes.
+pub const LONGEST_AMOUNT: usize = 41;
+
+// What a crossing of two links costs, and in which kind of amount it is counted. Definitions take the kind and the prices
+// apart, since the laws of amounts speak of the kind alone.
 pub trait Measure {
     type Amount: Amount;
 
-    // the number by which a script names the measure
+    // the number by which a script names the measure: a project rule asks for a constant
     const NUMBER: u8;
 
-    ghost numbered: { ℕ };
+    ghost NUMBER: { ℕ };
 
     ghost priced: { Link → Link → Self.Amount };
-
-    fn own_number() -> u8
-        ensures { result ≡ numbered };
 
     fn price(a: Link, b: Link) -> Self::Amount
         ensures { result ≡ priced a b };
@@ -29,11 +31,8 @@ pub trait Measure {
 pub trait PrintingMeasure: Measure {
     ghost written: { Self.Amount → List ℕ };
 
-    // Writes the amount into the line from `at` on, and answers the place behind it.
-    fn write(amount: Self::Amount, line: &mut [u8], at: usize) -> usize
-        requires { at + 41 ≤ length line.old }
-        ensures next { result ≡ at + length (written amount) }
-        ensures bytes { line.new ≡ over line.old at (written amount) };
+    fn write(amount: Self::Amount) -> ArrayString<LONGEST_AMOUNT>
+        ensures { result.bytes ≡ written amount };
 
     ghost short: { (x : Self.Amount) → (0 < length (written x)) × (length (written x) ≤ 41) };
 

@@ -41,6 +41,6 @@ impl Amount for Pair {
     }
 
     fn is_at_most(self, other: Pair) -> bool {
-        self.trunk < other.trunk || self.trunk == other.trunk && self.rest <= other.rest
+        self <= other
     }
 }

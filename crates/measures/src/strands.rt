@@ -3,15 +3,14 @@ ghost use Rattle.measures.specs.Writings.{strand_written};
 ghost use Rattle.measures.specs.Prices.{strand_price};
 ghost use Rattle.measures.specs.declared.sum.Sum.{Sum};
 ghost use Rattle.measures.specs.SumLaws.{strands_exchanged};
-ghost use Rattle.std.proofs.lemmas.Fmt.{decimal_nonempty};
-ghost use Rattle.measures.specs.Digits.{short_decimal, decimal_unbroken};
-ghost use Rattle.std.proofs.Common.{arith};
+ghost use Rattle.measures.specs.WritingLaws.{strand_short, strand_unbroken};
 
 use crate::amount::Amount;
-use crate::line::put_decimal;
 use crate::link::Link;
-use crate::measure::{Measure, PrintingMeasure};
+use crate::measure::{LONGEST_AMOUNT, Measure, PrintingMeasure};
 use crate::sum::Sum;
+use arrayvec::ArrayString;
+use itoa::Buffer;
 
 // Measure 1: the product of the strands, summed.
 #[derive(Clone, Copy)]
@@ -22,29 +21,27 @@ impl Measure for ByStrands {
 
     const NUMBER: u8 = 1;
 
-    ghost numbered = { 1 };
+    ghost NUMBER = { 1 };
 
     ghost priced = { strand_price };
 
-    ghost exchanged = { λ a b. strands_exchanged a b };
-
-    fn own_number() -> u8 {
-        Self::NUMBER
-    }
+    ghost exchanged = { strands_exchanged };
 
     fn price(a: Link, b: Link) -> Sum {
-        Sum::of(a.strands as u64 * b.strands as u64)
+        Sum::from(a.product(b))
     }
 }
 
 impl PrintingMeasure for ByStrands {
     ghost written = { strand_written };
 
-    ghost short = { λ x. (decimal_nonempty x.value x.fits, omega (arith, short_decimal x.value x.fits)) };
+    ghost short = { strand_short };
 
-    ghost unbroken = { λ x. decimal_unbroken x.value x.fits };
+    ghost unbroken = { strand_unbroken };
 
-    fn write(amount: Sum, line: &mut [u8], at: usize) -> usize {
-        put_decimal(line, at, amount.value)
+    fn write(amount: Sum) -> ArrayString<LONGEST_AMOUNT> {
+        let mut text = ArrayString::new();
+        text.push_str(Buffer::new().format(amount.value));
+        text
     }
 }

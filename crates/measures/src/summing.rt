@@ -5,11 +5,11 @@ ghost use Rattle.measures.specs.SumLaws.{sums_lawful};
 use crate::amount::Amount;
 use crate::sum::Sum;
 
-impl Sum {
-    // A number as an amount.
-    pub(crate) fn of(value: u64) -> Sum
-        ensures { result ≡ sum_held value }
-    {
+// A number as an amount.
+impl From<u64> for Sum {
+    ghost from_gives = { λ value r. r ≡ sum_held value };
+
+    fn from(value: u64) -> Sum {
         Sum { value }
     }
 }
@@ -20,14 +20,14 @@ impl Amount for Sum {
     ghost lawful = { sums_lawful };
 
     fn nothing() -> Sum {
-        Sum::of(0)
+        Sum::from(0)
     }
 
     fn joined(self, other: Sum) -> Sum {
-        Sum::of(self.value.saturating_add(other.value))
+        Sum::from(self.value.saturating_add(other.value))
     }
 
     fn is_at_most(self, other: Sum) -> bool {
-        self.value <= other.value
+        self <= other
     }
 }

@@ -1,16 +1,16 @@
-ghost use Rattle.std.specs.Prelude.{◌≡◌, ◌∷◌, decimal};
+ghost use Rattle.std.specs.Prelude.{◌≡◌};
 ghost use Rattle.measures.specs.Writings.{trunk_written};
 ghost use Rattle.measures.specs.Prices.{trunk_price};
 ghost use Rattle.measures.specs.declared.pair.Pair.{Pair};
 ghost use Rattle.measures.specs.PairLaws.{trunks_exchanged};
-ghost use Rattle.std.proofs.Common.{arith};
-ghost use Rattle.measures.specs.Digits.{pair_length, short_decimal, decimal_unbroken, unbroken_append};
+ghost use Rattle.measures.specs.WritingLaws.{trunk_short, trunk_unbroken};
 
 use crate::amount::Amount;
-use crate::line::put_parted;
 use crate::link::Link;
-use crate::measure::{Measure, PrintingMeasure};
+use crate::measure::{LONGEST_AMOUNT, Measure, PrintingMeasure};
 use crate::pair::Pair;
+use arrayvec::ArrayString;
+use itoa::Buffer;
 
 // Measure 2: the product of the strands, trunk crossings before all others.
 #[derive(Clone, Copy)]
@@ -21,38 +21,33 @@ impl Measure for ByTrunks {
 
     const NUMBER: u8 = 2;
 
-    ghost numbered = { 2 };
+    ghost NUMBER = { 2 };
 
     ghost priced = { trunk_price };
 
-    ghost exchanged = { λ a b. trunks_exchanged a b };
-
-    fn own_number() -> u8 {
-        Self::NUMBER
-    }
+    ghost exchanged = { trunks_exchanged };
 
     fn price(a: Link, b: Link) -> Pair {
-        let product = a.strands as u64 * b.strands as u64;
-        let either = a.class.is_trunk() | b.class.is_trunk();
-        if either {
-            return Pair::of(product, 0);
+        if a.class.is_trunk() || b.class.is_trunk() {
+            Pair::of(a.product(b), 0)
+        } else {
+            Pair::of(0, a.product(b))
         }
-        Pair::of(0, product)
     }
 }
 
 impl PrintingMeasure for ByTrunks {
     ghost written = { trunk_written };
 
-    ghost short = { λ x.
-        let l = pair_length x.trunk x.rest in
-        let t = short_decimal x.trunk x.fits.0 in
-        let r = short_decimal x.rest x.fits.1 in
-        (omega arith, omega arith) };
+    ghost short = { trunk_short };
 
-    ghost unbroken = { λ x. unbroken_append (decimal x.trunk) (47 ∷ decimal x.rest) (decimal_unbroken x.trunk x.fits.0) (λ e. omega arith, decimal_unbroken x.rest x.fits.1) };
+    ghost unbroken = { trunk_unbroken };
 
-    fn write(amount: Pair, line: &mut [u8], at: usize) -> usize {
-        put_parted(line, at, amount.trunk, amount.rest)
+    fn write(amount: Pair) -> ArrayString<LONGEST_AMOUNT> {
+        let mut text = ArrayString::new();
+        text.push_str(Buffer::new().format(amount.trunk));
+        text.push('/');
+        text.push_str(Buffer::new().format(amount.rest));
+        text
     }
 }

@@ -9,7 +9,8 @@ use Rattle.designs.proofs.Orders.{length_from_once}
 use Rattle.partials.specs.Partials.{Partial, PartialOf, unplaced}
 use Rattle.partials.specs.Sizes.{right_size, left_size, tree_size}
 use Rattle.partials.specs.Tree.{placings, addings, children, height, nodes_under, nodes_to, nodes_below}
-use Rattle.partials.specs.Children.{put, add, put_valid, add_valid, length-put, times-append, free_below, free_named, none_unplaced, all_children}
+use Rattle.partials.specs.Children.{put, add, put_valid, add_valid, length-put, free_below, free_named, none_unplaced, all_children}
+use Rattle.designs.proofs.Orders.{times-append}
 
 -- prefix and unplaced switches are all right switches
 pub prefix_and_unplaced : (g : Grid) (p : Partial) → All (λ v. v < g.rights) p.prefix → ((v : ℕ) → times v p.prefix ≤ 1) → length p.prefix + length (unplaced g p) ≡ g.rights

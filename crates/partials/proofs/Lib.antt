@@ -1,5 +1,6 @@
 pub mod Capped
 pub mod Counted
-pub mod Fronts
+pub mod Adding
+pub mod Inserting
 pub mod Nth
 pub mod Rulings

@@ -6,7 +6,8 @@ use Rattle.designs.specs.Grids.{Grid}
 use Rattle.designs.specs.Rows.{times, number_order}
 use Rattle.partials.specs.Partials.{Partial, has, unplaced}
 use Rattle.partials.specs.Tree.{put_at, placings, addings, nth}
-use Rattle.partials.specs.Children.{free_named, number_order_order}
+use Rattle.partials.specs.Children.{free_named}
+use Rattle.designs.proofs.Orders.{number_order_order}
 use Rattle.partials.proofs.Counted.{prefix_and_unplaced}
 
 pub nth_placing : (i at x : ℕ) (xs : List ℕ) → at ≤ i → nth (placings i x xs) at ≡ Some (record { placed = put_at (i - at) x xs; prefix = [] })
@@ -49,5 +50,8 @@ fewer_kept : (t : ℕ → Bool) (xs : List ℕ) → length (filter t xs) ≤ len
 fewer_kept t [] = omega arith
 fewer_kept t (x ∷ xs) = let r = fewer_kept t xs in cond_both (t x) (x ∷ filter t xs) (filter t xs) (λ ys. length ys ≤ suc (length xs)) (λ _. omega arith) (λ _. omega arith)
 
+pub few_named : (t : ℕ → Bool) (n : ℕ) → length (filter t (number_order n)) ≤ n
+few_named t n = omega (arith, fewer_kept t (number_order n), (number_order_order n).0)
+
 pub few_unplaced : (g : Grid) (p : Partial) → length (unplaced g p) ≤ g.rights
-few_unplaced g p = omega (arith, fewer_kept (λ v. not (has p.prefix v)) (number_order g.rights), (number_order_order g.rights).0)
+few_unplaced g p = few_named (λ v. not (has p.prefix v)) g.rights

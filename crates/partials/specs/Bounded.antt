@@ -13,7 +13,8 @@ use Rattle.designs.specs.Rows.{times}
 use Rattle.designs.proofs.Joined.{cost_by_right_pairs}
 use Rattle.partials.specs.Partials.{Partial, DrawingOf, Completes, unplaced}
 use Rattle.partials.specs.Rules.{lesser, over_settled, known, settled_price, lesser_price}
-use Rattle.partials.specs.Children.{times-append, free_named, none_below, order_small, free_below, none_unplaced}
+use Rattle.partials.specs.Children.{free_named, none_below, order_small, free_below, none_unplaced}
+use Rattle.designs.proofs.Orders.{times-append}
 use Rattle.partials.specs.Joins.{Alike, join_both, join_left, settled_under, settled_alike, two_append, two_fewer, two_alike_under}
 use Rattle.partials.specs.Levels.{lesser_left, lesser_right}
 

@@ -8,7 +8,7 @@ use Rattle.std.proofs.lemmas.Bool.{cases_Bool, cases_eq, cases_lt, lt-ltb, le-lt
 use Rattle.designs.specs.Grids.{Grid}
 use Rattle.designs.specs.Readings.{TwoRows}
 use Rattle.designs.specs.Rows.{times, Order, number_order}
-use Rattle.designs.proofs.Orders.{order_below, order_from_names, length_from_once}
+use Rattle.designs.proofs.Orders.{order_below, order_from_names, times-append, number_order_order}
 use Rattle.partials.specs.Partials.{Partial, PartialOf, nothing_placed, DrawingOf, below, Completes, has, unplaced}
 use Rattle.partials.specs.Tree.{put_at, placings, addings, children, is_whole, drawn}
 use Rattle.partials.specs.Belows.{below_below, below_all, below_none, below_next, times_here, times_else}
@@ -17,10 +17,6 @@ use Rattle.partials.specs.Belows.{below_below, below_all, below_none, below_next
 abbrev pub Any : {X : Type 0} → (X → Type 0) → List X → Type 0
 Any P [] = ⊥
 Any P (x ∷ xs) = P x ⊎ Any P xs
-
-pub times-append : (v : ℕ) (xs ys : List ℕ) → times v (xs ++ ys) ≡ times v xs + times v ys
-times-append v [] ys = omega arith
-times-append v (x ∷ xs) ys = omega (arith, times-append v xs ys)
 
 times-put : (v i k : ℕ) (xs : List ℕ) → times v (put_at i k xs) ≡ times v (k ∷ xs)
 times-put v i k xs =
@@ -60,20 +56,6 @@ pub none_below : (n v : ℕ) (xs : List ℕ) → All (λ x. x < n) xs → n ≤ 
 none_below n v [] h l = refl
 none_below n v (x ∷ xs) h l = times_else v x xs (λ e. omega (arith, All-head (λ x. x < n) x xs h)) ∙ none_below n v xs (All-tail (λ x. x < n) x xs h) l
 
-times_order : (n v : ℕ) → v < n → times v (number_order n) ≡ 1
-times_order zero v h = let no : ⊥ = omega arith in absurd no
-times_order (suc n) v h =
-    let a = times-append v (number_order n) (n ∷ []) in
-    ⊎_elim
-    (λ l. omega (arith, times_order n v l, times_else v n [] (λ e. omega arith)))
-    (λ l.
-    let e : n ≡ v = omega arith in
-    omega (arith, times_here v n [] e, none_below n v (number_order n) (below_order n) l))
-    (cases_lt v n)
-
-pub number_order_order : (n : ℕ) → Order n (number_order n)
-number_order_order n = (length_from_once n (number_order n) (below_order n) (times_order n), times_order n)
-
 -- nothing placed is a partial drawing of every design, and every drawing completes it
 pub nothing_partial : (g : Grid) → PartialOf g nothing_placed
 nothing_partial g = record { placed = (refl, λ k h. let no : ⊥ = omega arith in absurd no); few = omega arith; early = λ _. refl; named = All-nil (λ v. v < g.rights); once = λ v. omega arith }
@@ -110,7 +92,7 @@ all_free g p =
     (All-weaker (λ v. test v ≡ true) (λ v. times v p.prefix ≡ 0) (λ v e. has_none v p.prefix (not-true (has p.prefix v) e)) (filter test xs) (filter_passes test xs))
 
 pub free_named : (g : Grid) (p : Partial) (v : ℕ) → v < g.rights → times v p.prefix ≡ 0 → times v (unplaced g p) ≡ 1
-free_named g p v l h = times_kept (λ u. not (has p.prefix u)) v (not_from_false (has p.prefix v) (none_has v p.prefix h)) (number_order g.rights) ∙ times_order g.rights v l
+free_named g p v l h = times_kept (λ u. not (has p.prefix u)) v (not_from_false (has p.prefix v) (none_has v p.prefix h)) (number_order g.rights) ∙ (number_order_order g.rights).1 v l
 
 pub free_below : (g : Grid) (p : Partial) → All (λ v. v < g.rights) (unplaced g p)
 free_below g p = All-weaker (Free g p) (λ v. v < g.rights) (λ v f. f.0) (unplaced g p) (all_free g p)

@@ -7,7 +7,7 @@ use Rattle.designs.specs.Costs.{over_each, over_two}
 use Rattle.designs.specs.Rows.{times}
 use Rattle.partials.specs.Rules.{over_settled}
 use Rattle.partials.specs.Belows.{times_here, times_else}
-use Rattle.partials.specs.Children.{times-append}
+use Rattle.designs.proofs.Orders.{times-append}
 use Rattle.partials.specs.Levels.{at_most_itself}
 
 -- two lists that name the same numbers equally often

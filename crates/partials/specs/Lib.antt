@@ -1,4 +1,5 @@
 pub mod Partials
+pub mod Names
 pub mod Nodes
 pub mod Rules
 pub mod Delivered

@@ -1,8 +1,9 @@
 -- Partial drawings, and the drawings that complete them.
-use Rattle.std.specs.Prelude.{◌≡◌, ℕ, ◌<◌, ◌≤◌, Bool, false, not, ◌||◌, List, [], ◌∷◌, length, take, filter, ◌==◌, nat_lt, All}
+use Rattle.std.specs.Prelude.{◌≡◌, ℕ, ◌<◌, ◌≤◌, Bool, not, List, [], length, take, filter, ◌==◌, nat_lt, All}
 use Rattle.designs.specs.Grids.{Grid}
 use Rattle.designs.specs.Readings.{TwoRows}
 use Rattle.designs.specs.Rows.{Order, times, number_order}
+use Rattle.std.specs.List.{list_any}
 
 -- the first left switches, 0 to k - 1, placed in some order, and a beginning of the right row
 pub record Partial : Type 0 where
@@ -33,8 +34,7 @@ abbrev pub Completes : Partial → TwoRows → Type 0
 Completes p x = (below (length p.placed) x.left ≡ p.placed) × (take (length p.prefix) x.right ≡ p.prefix)
 
 abbrev pub has : List ℕ → ℕ → Bool
-has [] x = false
-has (y ∷ ys) x = y == x || has ys x
+has xs x = list_any (λ y. y == x) xs
 
 -- the right switches that are not in the prefix, lowest number first
 abbrev pub unplaced : Grid → Partial → List ℕ

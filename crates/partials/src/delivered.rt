@@ -1,6 +1,6 @@
 ghost use Rattle.std.specs.Prelude.{◌≡◌};
 ghost use Rattle.designs.specs.Grids.{Grid, grid_of};
-ghost use Rattle.partials.specs.Delivered.{ruled};
+ghost use Rattle.partials.specs.Delivered.{ruled, read_rule};
 ghost use Rattle.partials.specs.Nodes.{partial_of};
 ghost use Rattle.partials.specs.Partials.{Partial};
 ghost use Rattle.partials.specs.Rules.{settled_price, lesser_price};
@@ -8,7 +8,6 @@ ghost use Rattle.partials.specs.Bounded.{settled_bounds, lesser_bounds};
 ghost use Rattle.partials.specs.declared.delivered.Rule.TheVariants.{Settled, Lesser};
 
 use crate::node::Node;
-use crate::rights::Rights;
 use crate::rule::BoundingRule;
 use crate::rules::{lesser_price, settled_price};
 use designs::design::Design;
@@ -43,11 +42,30 @@ impl<M: Measure> BoundingRule<M> for LesserPrices {
     }
 }
 
-// One of the delivered rules.
-#[derive(Clone, Copy)]
+// One of the delivered rules, chosen by a number: an enum, since no function may be handed out.
+#[derive(Clone, Copy, PartialEq, Eq, Debug)]
 pub enum Rule {
     Settled,
     Lesser,
+}
+
+// A number that names no rule.
+#[derive(Clone, Copy, PartialEq, Eq, Debug)]
+pub struct UnknownRule;
+
+// Scripts name the rules 1 and 2.
+impl TryFrom<u8> for Rule {
+    type Error = UnknownRule;
+
+    ghost try_from_gives = { λ number r. r ≡ read_rule number };
+
+    fn try_from(number: u8) -> Result<Rule, UnknownRule> {
+        match number {
+            1 => Ok(Rule::Settled),
+            2 => Ok(Rule::Lesser),
+            _ => Err(UnknownRule),
+        }
+    }
 }
 
 impl<M: Measure> BoundingRule<M> for Rule {

@@ -1,9 +1,9 @@
 #![tactic(auto)]
 
 pub mod delivered;
+pub mod names;
 pub mod node;
 pub mod prices;
-pub mod rights;
 pub mod rule;
 pub mod rules;
 pub mod size;

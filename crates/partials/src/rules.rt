@@ -1,29 +1,18 @@
-ghost use Rattle.std.specs.Prelude.{◌≡◌, ℕ, ◌<◌, ◌≤◌, ◌++◌, length, take, drop, All};
-ghost use Rattle.designs.specs.Costs.{between, over_each, over_two};
-ghost use Rattle.designs.specs.Grids.{grid_of, cell_in};
-ghost use Rattle.partials.specs.Nodes.{partial_of, rights_of};
+ghost use Rattle.std.specs.Prelude.{◌≡◌, ◌<◌, All};
+ghost use Rattle.designs.specs.Costs.{over_each, over_two};
+ghost use Rattle.designs.specs.Grids.{grid_of};
+ghost use Rattle.partials.specs.Names.{names_of};
+ghost use Rattle.partials.specs.Nodes.{partial_of};
 ghost use Rattle.partials.specs.Partials.{unplaced};
-ghost use Rattle.partials.specs.Rules.{lesser, over_settled, known, settled_price, lesser_price};
+ghost use Rattle.partials.specs.Rules.{lesser, known, over_settled, settled_price, lesser_price};
 
+use crate::names::Names;
 use crate::node::Node;
 use crate::prices::pair_price;
-use crate::rights::Rights;
 use designs::design::Design;
+use designs::joining::{over_each, over_two};
 use measures::amount::Amount;
 use measures::measure::Measure;
-
-// The known prices of a right switch u before each of the later ones.
-fn known_with<M: Measure>(design: &Design, left: &[u8], u: u8, later: &[u8]) -> M::Amount
-    requires { (All (λ a. a < 24) left.now) × ((u < 24) × (All (λ v. v < 24) later.now)) }
-    ensures { result ≡ over_each M.Amount.Amount.kind (between M.Amount.Amount.kind M.Measure.priced (cell_in (grid_of design.now)) left.now u) later.now }
-{
-    let mut sum = <M::Amount as Amount>::nothing();
-    for v in later {
-        let (uv, _) = pair_price::<M>(design, left, u, *v);
-        sum = sum.joined(uv);
-    }
-    sum
-}
 
 // The lesser of two amounts, the first where they are level.
 pub fn lesser_of<A: Amount>(x: A, y: A) -> A
@@ -32,74 +21,83 @@ pub fn lesser_of<A: Amount>(x: A, y: A) -> A
     if x.is_at_most(y) { x } else { y }
 }
 
-// The lesser of the two prices of a right switch u with each of the others.
-fn lesser_with<M: Measure>(design: &Design, left: &[u8], u: u8, others: &[u8]) -> M::Amount
-    requires { (All (λ a. a < 24) left.now) × ((u < 24) × (All (λ v. v < 24) others.now)) }
-    ensures { result ≡ over_each M.Amount.Amount.kind (λ v. lesser M.Amount.Amount.kind (between M.Amount.Amount.kind M.Measure.priced (cell_in (grid_of design.now)) left.now u v) (between M.Amount.Amount.kind M.Measure.priced (cell_in (grid_of design.now)) left.now v u)) others.now }
+// The known price of right switches u before v.
+fn known<M: Measure>(design: &Design, node: &Node, u: u8, v: u8) -> M::Amount
+    requires first { u < 24 }
+    requires second { v < 24 }
+    ensures { result ≡ known M.Amount.Amount.kind M.Measure.priced (grid_of design.now) (partial_of node.now) u v }
 {
-    let mut sum = <M::Amount as Amount>::nothing();
-    for v in others {
-        let (uv, vu) = pair_price::<M>(design, left, u, *v);
-        sum = sum.joined(lesser_of(uv, vu));
-    }
-    sum
+    let (uv, _) = pair_price::<M>(design, node.left(), u, v);
+    uv
 }
 
-// The known price of every pair of which one is among the first of a row.
-fn settled<M: Measure>(design: &Design, left: &[u8], row: &[u8], begun: usize) -> M::Amount
-    requires { (All (λ a. a < 24) left.now) × ((All (λ v. v < 24) row.now) × (begun ≤ length row.now)) }
-    ensures { result ≡ over_settled M.Amount.Amount.kind (between M.Amount.Amount.kind M.Measure.priced (cell_in (grid_of design.now)) left.now) (take begun row.now) (drop begun row.now) }
+// The lesser of the two known prices of right switches u and v.
+fn lesser_known<M: Measure>(design: &Design, node: &Node, u: u8, v: u8) -> M::Amount
+    requires first { u < 24 }
+    requires second { v < 24 }
+    ensures { result ≡ lesser M.Amount.Amount.kind (known M.Amount.Amount.kind M.Measure.priced (grid_of design.now) (partial_of node.now) u v) (known M.Amount.Amount.kind M.Measure.priced (grid_of design.now) (partial_of node.now) v u) }
 {
-    let mut sum = <M::Amount as Amount>::nothing();
-    for i in 0..begun {
-        let (_, later) = row.split_at(i + 1);
-        sum = sum.joined(known_with::<M>(design, left, row[i], later));
-    }
-    sum
+    let (uv, vu) = pair_price::<M>(design, node.left(), u, v);
+    lesser_of(uv, vu)
 }
 
-// The lesser price of every pair.
-fn lesser_pairs<M: Measure>(design: &Design, left: &[u8], row: &[u8]) -> M::Amount
-    requires { (All (λ a. a < 24) left.now) × (All (λ v. v < 24) row.now) }
-    ensures { result ≡ over_two M.Amount.Amount.kind (λ u v. lesser M.Amount.Amount.kind (between M.Amount.Amount.kind M.Measure.priced (cell_in (grid_of design.now)) left.now u v) (between M.Amount.Amount.kind M.Measure.priced (cell_in (grid_of design.now)) left.now v u)) row.now }
+// The known prices of a right switch u before each of some others.
+fn known_with<M: Measure>(design: &Design, node: &Node, u: u8, others: &Names<24>) -> M::Amount
+    requires { u < 24 }
+    ensures { result ≡ over_each M.Amount.Amount.kind (known M.Amount.Amount.kind M.Measure.priced (grid_of design.now) (partial_of node.now) u) (names_of others.now) }
 {
-    let mut sum = <M::Amount as Amount>::nothing();
-    for i in 0..row.len() {
-        let (_, later) = row.split_at(i + 1);
-        sum = sum.joined(lesser_with::<M>(design, left, row[i], later));
-    }
-    sum
+    over_each(
+        others.as_slice(),
+        |v: u8| -> M::Amount
+            requires { (u < 24) × (v < 24) }
+        { known::<M>(design, node, u, v) },
+    )
 }
 
-// The known price of every settled pair of a node, whose right switches are given: the prefix first.
-fn settled_among<M: Measure>(design: &Design, node: &Node, all: &Rights) -> M::Amount
-    requires { rights_of all.now ≡ (partial_of node.now).prefix ++ unplaced (grid_of design.now) (partial_of node.now) }
-    ensures { result ≡ settled_price M.Amount.Amount.kind M.Measure.priced (grid_of design.now) (partial_of node.now) }
+// The known price of every settled pair of a node, whose unplaced right switches are given.
+fn settled_beside<M: Measure>(design: &Design, node: &Node, free: &Names<24>) -> M::Amount
+    ensures { result ≡ over_settled M.Amount.Amount.kind (known M.Amount.Amount.kind M.Measure.priced (grid_of design.now) (partial_of node.now)) (partial_of node.now).prefix (names_of free.now) }
 {
-    settled::<M>(design, node.left(), all.switches(), node.prefix().len())
+    let prefix = node.prefix();
+    let within = over_two(
+        prefix,
+        |u: u8, v: u8| -> M::Amount
+            requires { (u < 24) × (v < 24) }
+        { known::<M>(design, node, u, v) },
+    );
+    let beside = over_each(
+        prefix,
+        |u: u8| -> M::Amount
+            requires { u < 24 }
+        { known_with::<M>(design, node, u, free) },
+    );
+    within.joined(beside)
 }
 
-// The lesser price of every other pair of a node, whose right switches are given: the prefix first.
-fn lesser_among<M: Measure>(design: &Design, node: &Node, all: &Rights) -> M::Amount
-    requires { rights_of all.now ≡ (partial_of node.now).prefix ++ unplaced (grid_of design.now) (partial_of node.now) }
-    ensures { result ≡ over_two M.Amount.Amount.kind (λ u v. lesser M.Amount.Amount.kind (known M.Amount.Amount.kind M.Measure.priced (grid_of design.now) (partial_of node.now) u v) (known M.Amount.Amount.kind M.Measure.priced (grid_of design.now) (partial_of node.now) v u)) (unplaced (grid_of design.now) (partial_of node.now)) }
+// The lesser price of each two right switches.
+fn lesser_pairs<M: Measure>(design: &Design, node: &Node, free: &Names<24>) -> M::Amount
+    ensures { result ≡ over_two M.Amount.Amount.kind (λ u v. lesser M.Amount.Amount.kind (known M.Amount.Amount.kind M.Measure.priced (grid_of design.now) (partial_of node.now) u v) (known M.Amount.Amount.kind M.Measure.priced (grid_of design.now) (partial_of node.now) v u)) (names_of free.now) }
 {
-    let (_, free) = all.switches().split_at(node.prefix().len());
-    lesser_pairs::<M>(design, node.left(), free)
+    over_two(
+        free.as_slice(),
+        |u: u8, v: u8| -> M::Amount
+            requires { (u < 24) × (v < 24) }
+        { lesser_known::<M>(design, node, u, v) },
+    )
 }
 
 // The known price of every settled pair of a node.
 pub fn settled_price<M: Measure>(design: &Design, node: &Node) -> M::Amount
     ensures { result ≡ settled_price M.Amount.Amount.kind M.Measure.priced (grid_of design.now) (partial_of node.now) }
 {
-    settled_among::<M>(design, node, &Rights::of(design, node))
+    settled_beside::<M>(design, node, &node.unplaced(design))
 }
 
 // That, and the lesser price of every other pair.
 pub fn lesser_price<M: Measure>(design: &Design, node: &Node) -> M::Amount
     ensures { result ≡ lesser_price M.Amount.Amount.kind M.Measure.priced (grid_of design.now) (partial_of node.now) }
 {
-    let all = Rights::of(design, node);
-    let known = settled_among::<M>(design, node, &all);
-    known.joined(lesser_among::<M>(design, node, &all))
+    let free = node.unplaced(design);
+    let settled = settled_beside::<M>(design, node, &free);
+    settled.joined(lesser_pairs::<M>(design, node, &free))
 }

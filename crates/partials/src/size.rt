@@ -7,7 +7,8 @@ ghost use Rattle.partials.specs.Tree.{nodes_below};
 
 use designs::design::Design;
 
-// The largest size of a tree that is told.
+// The largest size of a tree that is told. The sizes are plain recursive functions, as a project rule asks, and the two are
+// no twins: one counts places to put a switch in, the other switches left over.
 const CEILING: u64 = 1_000_000_000;
 
 // The nodes below a full left row with so many right switches unplaced.

@@ -1,9 +1,8 @@
 -- The number, the layer and the place of each refusal.
-use Rattle.std.specs.Prelude.{ℕ, Ok, Err, Result}
+use Rattle.std.specs.Prelude.{ℕ}
 use Rattle.designs.specs.Faults.{design_number, row_number}
 use Rattle.designs.specs.declared.fault.Layer.{Layer}
 use Rattle.designs.specs.declared.fault.Layer.TheVariants.{Script, Setup, Design, Search}
-use Rattle.scripts.specs.declared.fault.Placed.{Placed}
 use Rattle.scripts.specs.declared.fault.SetupFault.{SetupFault}
 use Rattle.scripts.specs.declared.fault.SetupFault.TheVariants.{UnknownMeasure, UnknownRule}
 use Rattle.scripts.specs.declared.fault.SearchFault.{SearchFault}
@@ -48,7 +47,3 @@ place_of (WrongCondition p) = p
 place_of (InSetup f p) = p
 place_of (InDesign f p) = p
 place_of (InSearch f p) = p
-
-abbrev pub at_place : {X F : Type 0} → Result X F → ℕ → Result X (Placed F)
-at_place (Ok x) p = Ok x
-at_place (Err f) p = Err (record { cause = f; place = p })

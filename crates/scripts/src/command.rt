@@ -1,4 +1,4 @@
-ghost use Rattle.std.specs.Prelude.{◌≡◌, ℕ, ◌<◌, ◌≤◌, length, IfOk};
+ghost use Rattle.std.specs.Prelude.{◌≡◌, ◌<◌, ◌≤◌, length, IfOk};
 ghost use Rattle.scripts.specs.Scripts.{width_of, read_command, next_after};
 
 use crate::fault::ScriptFault;
@@ -9,8 +9,9 @@ pub const LINE: usize = 256;
 // The longest script that a call takes.
 pub const LONGEST: usize = 65536;
 
-// A command of a script: its letter, the byte that the letter has, and the byte behind its operands.
-#[derive(Clone, Copy)]
+// A command of a script: its letter, the byte that the letter has, and the byte behind its operands. The letter stays a
+// character, since a project rule has it matched together with the session's condition.
+#[derive(Clone, Copy, PartialEq, Eq, Debug)]
 pub struct Command {
     pub letter: char,
     pub place: usize,
@@ -22,8 +23,7 @@ fn operand_width(letter: char) -> Option<usize>
     ensures { result ≡ width_of letter }
 {
     match letter {
-        'M' => Some(2),
-        'D' => Some(2),
+        'M' | 'D' => Some(2),
         'L' => Some(4),
         'C' => Some(0),
         'O' => Some(48),
@@ -34,7 +34,9 @@ fn operand_width(letter: char) -> Option<usize>
 // Reads the command at a byte of the script, for a line with this much room.
 pub fn read_command(script: &[u8], place: usize, room: usize) -> Result<Command, ScriptFault>
     ensures value { result ≡ read_command script.now place room }
-    ensures found { IfOk result (λ c. (c.place ≡ place) × (place < c.next) × (c.next ≤ length script.now)) }
+    ensures place { IfOk result (λ c. c.place ≡ place) }
+    ensures forward { IfOk result (λ c. place < c.next) }
+    ensures within { IfOk result (λ c. c.next ≤ length script.now) }
 {
     if room < LINE {
         return Err(ScriptFault::ShortLine { place });
@@ -42,13 +44,8 @@ pub fn read_command(script: &[u8], place: usize, room: usize) -> Result<Command,
     if script.len() > LONGEST {
         return Err(ScriptFault::LongScript);
     }
-    if place >= script.len() {
-        return Err(ScriptFault::CutOff { place });
-    }
-    let letter = script[place] as char;
-    let Some(width) = operand_width(letter) else {
-        return Err(ScriptFault::UnknownLetter { place });
-    };
+    let letter = char::from(*script.get(place).ok_or(ScriptFault::CutOff { place })?);
+    let width = operand_width(letter).ok_or(ScriptFault::UnknownLetter { place })?;
     let next = place + 1 + width;
     if next > script.len() {
         return Err(ScriptFault::CutOff { place });

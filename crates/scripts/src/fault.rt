@@ -1,32 +1,28 @@
-ghost use Rattle.std.specs.Prelude.{◌≡◌, Ok, Err};
-ghost use Rattle.scripts.specs.Faults.{setup_number, search_number, number_of, layer_of, place_of, at_place};
+ghost use Rattle.std.specs.Prelude.{◌≡◌};
+ghost use Rattle.scripts.specs.Faults.{setup_number, search_number, number_of, layer_of, place_of};
+ghost use Rattle.scripts.specs.declared.fault.SetupFault.TheVariants.{UnknownRule as NoSuchRule};
 ghost use Rattle.scripts.specs.declared.fault.SearchFault.TheVariants.{InRow};
 ghost use Rattle.scripts.specs.declared.fault.ScriptFault.TheVariants.{InSetup, InDesign, InSearch};
 
 use designs::fault::{DesignFault, Layer, RowFault};
+pub use designs::fault::{Placed, at_place};
+use partials::delivered::UnknownRule;
 
-// Why a choice of measure and rule is refused.
-#[derive(Clone, Copy)]
+// Why a choice of measure and rule is refused, and the number of each refusal.
+#[derive(Clone, Copy, PartialEq, Eq, Debug)]
 pub enum SetupFault {
-    UnknownMeasure,
-    UnknownRule,
+    UnknownMeasure = 6,
+    UnknownRule = 7,
 }
 
 // Why a command to a search is refused.
-#[derive(Clone, Copy)]
+#[derive(Clone, Copy, PartialEq, Eq, Debug)]
 pub enum SearchFault {
     InRow(RowFault),
 }
 
-// A cause, and the byte of the script at which its command stands.
-#[derive(Clone, Copy)]
-pub struct Placed<F> {
-    pub cause: F,
-    pub place: usize,
-}
-
 // Why a call is refused.
-#[derive(Clone, Copy)]
+#[derive(Clone, Copy, PartialEq, Eq, Debug)]
 pub enum ScriptFault {
     ShortLine { place: usize },
     LongScript,
@@ -36,6 +32,14 @@ pub enum ScriptFault {
     InSetup { cause: SetupFault, place: usize },
     InDesign { cause: DesignFault, place: usize },
     InSearch { cause: SearchFault, place: usize },
+}
+
+impl From<UnknownRule> for SetupFault {
+    ghost from_gives = { λ _ r. r ≡ NoSuchRule };
+
+    fn from(_: UnknownRule) -> SetupFault {
+        SetupFault::UnknownRule
+    }
 }
 
 impl From<RowFault> for SearchFault {
@@ -49,8 +53,7 @@ impl From<RowFault> for SearchFault {
 impl From<Placed<SetupFault>> for ScriptFault {
     ghost from_gives = { λ f r. r ≡ InSetup f.cause f.place };
 
-    fn from(fault: Placed<SetupFault>) -> ScriptFault {
-        let Placed { cause, place } = fault;
+    fn from(Placed { cause, place }: Placed<SetupFault>) -> ScriptFault {
         ScriptFault::InSetup { cause, place }
     }
 }
@@ -58,8 +61,7 @@ impl From<Placed<SetupFault>> for ScriptFault {
 impl From<Placed<DesignFault>> for ScriptFault {
     ghost from_gives = { λ f r. r ≡ InDesign f.cause f.place };
 
-    fn from(fault: Placed<DesignFault>) -> ScriptFault {
-        let Placed { cause, place } = fault;
+    fn from(Placed { cause, place }: Placed<DesignFault>) -> ScriptFault {
         ScriptFault::InDesign { cause, place }
     }
 }
@@ -67,19 +69,8 @@ impl From<Placed<DesignFault>> for ScriptFault {
 impl From<Placed<SearchFault>> for ScriptFault {
     ghost from_gives = { λ f r. r ≡ InSearch f.cause f.place };
 
-    fn from(fault: Placed<SearchFault>) -> ScriptFault {
-        let Placed { cause, place } = fault;
+    fn from(Placed { cause, place }: Placed<SearchFault>) -> ScriptFault {
         ScriptFault::InSearch { cause, place }
-    }
-}
-
-// Gives a fault its place.
-pub fn at_place<T, F>(res: Result<T, F>, place: usize) -> Result<T, Placed<F>>
-    ensures { result ≡ at_place res place }
-{
-    match res {
-        Ok(value) => Ok(value),
-        Err(cause) => Err(Placed { cause, place }),
     }
 }
 
@@ -87,10 +78,7 @@ impl SetupFault {
     pub fn number(&self) -> u8
         ensures { result ≡ setup_number self.now }
     {
-        match self {
-            SetupFault::UnknownMeasure => 6,
-            SetupFault::UnknownRule => 7,
-        }
+        *self as u8
     }
 }
 
@@ -105,7 +93,7 @@ impl SearchFault {
 }
 
 impl ScriptFault {
-    // The number by which the fault is known.
+    // The number by which the fault is known; a variant with fields has no discriminant that `as` reads.
     pub fn number(&self) -> u8
         ensures { result ≡ number_of self.now }
     {
@@ -126,14 +114,10 @@ impl ScriptFault {
         ensures { result ≡ layer_of self.now }
     {
         match self {
-            ScriptFault::ShortLine { .. } => Layer::Script,
-            ScriptFault::LongScript => Layer::Script,
-            ScriptFault::UnknownLetter { .. } => Layer::Script,
-            ScriptFault::CutOff { .. } => Layer::Script,
-            ScriptFault::WrongCondition { .. } => Layer::Script,
             ScriptFault::InSetup { .. } => Layer::Setup,
             ScriptFault::InDesign { .. } => Layer::Design,
             ScriptFault::InSearch { .. } => Layer::Search,
+            _ => Layer::Script,
         }
     }
 
@@ -142,14 +126,14 @@ impl ScriptFault {
         ensures { result ≡ place_of self.now }
     {
         match self {
-            ScriptFault::ShortLine { place } => *place,
             ScriptFault::LongScript => 0,
-            ScriptFault::UnknownLetter { place } => *place,
-            ScriptFault::CutOff { place } => *place,
-            ScriptFault::WrongCondition { place } => *place,
-            ScriptFault::InSetup { place, .. } => *place,
-            ScriptFault::InDesign { place, .. } => *place,
-            ScriptFault::InSearch { place, .. } => *place,
+            ScriptFault::ShortLine { place }
+            | ScriptFault::UnknownLetter { place }
+            | ScriptFault::CutOff { place }
+            | ScriptFault::WrongCondition { place }
+            | ScriptFault::InSetup { place, .. }
+            | ScriptFault::InDesign { place, .. }
+            | ScriptFault::InSearch { place, .. } => *place,
         }
     }
 }

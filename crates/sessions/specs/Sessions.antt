@@ -1,5 +1,7 @@
 -- The whole session: fresh, or with a measure and a rule, and one call on a line.
 use Rattle.std.specs.Prelude.{ℕ, ◌+◌, cond, List, [], Some, None, Ok, Err, Option, Result, ◌==◌, slice_index}
+use Rattle.std.specs.Result.{result_err, result_map_both}
+use Rattle.designs.specs.Results.{on_ok}
 use Rattle.measures.specs.Sums.{sums}
 use Rattle.measures.specs.Pairs.{pairs}
 use Rattle.measures.specs.Prices.{strand_price, trunk_price}
@@ -17,11 +19,10 @@ use Rattle.scripts.specs.declared.fault.SetupFault.{SetupFault}
 use Rattle.scripts.specs.declared.fault.SetupFault.TheVariants.{UnknownMeasure, UnknownRule}
 use Rattle.scripts.specs.declared.fault.ScriptFault.{ScriptFault}
 use Rattle.scripts.specs.declared.fault.ScriptFault.TheVariants.{WrongCondition, InSetup}
-use Rattle.sessions.specs.declared.rule.Rule.{Rule}
-use Rattle.sessions.specs.declared.rule.Rule.TheVariants.{Settled, Lesser}
+use Rattle.partials.specs.Delivered.{read_rule}
+use Rattle.partials.specs.declared.delivered.Rule.{Rule}
 use Rattle.sessions.specs.declared.session.Session.{Session}
 use Rattle.sessions.specs.declared.session.Session.TheVariants.{Fresh, ByStrands, ByTrunks}
-use Rattle.sessions.specs.declared.telling.Telling.{Telling}
 
 pub data Whole : Type 0 where
   fresh : Whole
@@ -33,28 +34,20 @@ whole_of Fresh = fresh
 whole_of (ByStrands s) = by_strands s.rule (stage_of s.condition)
 whole_of (ByTrunks s) = by_trunks s.rule (stage_of s.condition)
 
+-- the rule with a number, or the refusal of a number that names none
 abbrev pub rule_numbered : ℕ → Result Rule SetupFault
-rule_numbered r = cond (r == 1) (Ok Settled) (cond (r == 2) (Ok Lesser) (Err UnknownRule))
-
-abbrev pub with_rule : (Rule → Whole) → Result Rule SetupFault → Result Whole SetupFault
-with_rule f (Ok r) = Ok (f r)
-with_rule f (Err e) = Err e
+rule_numbered r = result_map_both (λ rule. rule) (λ _. UnknownRule) (read_rule r)
 
 -- M's two numbers: the measure is looked at before the rule
 abbrev pub set_up : ℕ → ℕ → Result Whole SetupFault
 set_up m r =
-    cond (m == 1) (with_rule (λ rule. by_strands rule set) (rule_numbered r))
-    (cond (m == 2) (with_rule (λ rule. by_trunks rule set) (rule_numbered r))
+    cond (m == 1) (on_ok (λ rule. by_strands rule set) (rule_numbered r))
+    (cond (m == 2) (on_ok (λ rule. by_trunks rule set) (rule_numbered r))
     (Err UnknownMeasure))
 
 abbrev pub placed_set_up : ℕ → Result Whole SetupFault → Result Whole ScriptFault
 placed_set_up p (Ok s) = Ok s
 placed_set_up p (Err f) = Err (InSetup f p)
-
--- why a call was refused, if it was
-abbrev pub fault_in : {M A : Type 0} → Result (Telling M A) ScriptFault → Option ScriptFault
-fault_in (Ok t) = None
-fault_in (Err f) = Some f
 
 -- what a call leaves: the refusal, if any, the bytes for the line, and the session
 pub record Outcome : Type 0 where
@@ -78,7 +71,7 @@ fresh_outcome script (Ok c) =
     (refusal fresh (WrongCondition c.place))
 
 abbrev pub carried_outcome : {M A : Type 0} → (A → List ℕ) → (Stage A → Whole) → Carried M A → Outcome
-carried_outcome written whole c = record { refused = fault_in c.told; bytes = answer_line written c.told; session = whole c.stage }
+carried_outcome written whole c = record { refused = result_err c.told; bytes = answer_line written c.told; session = whole c.stage }
 
 -- one call: script, byte, and how long the line is
 abbrev pub outcome : Whole → List ℕ → ℕ → ℕ → Outcome

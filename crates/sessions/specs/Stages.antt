@@ -11,7 +11,6 @@ use Rattle.designs.specs.declared.fault.LinkFault.{LinkFault}
 use Rattle.designs.specs.declared.fault.RowFault.{RowFault}
 use Rattle.scripts.specs.declared.fault.ScriptFault.{ScriptFault}
 use Rattle.scripts.specs.declared.fault.ScriptFault.TheVariants.{WrongCondition, InDesign, InSearch}
-use Rattle.scripts.specs.declared.fault.SearchFault.{SearchFault}
 use Rattle.scripts.specs.declared.fault.SearchFault.TheVariants.{InRow}
 use Rattle.sessions.specs.declared.measured.Condition.{Condition}
 use Rattle.sessions.specs.declared.measured.Condition.TheVariants.{Set, Filling, Searching}
@@ -66,10 +65,6 @@ offer_by K priced g best best-cost p (Ok x) = record {
   stage = offered_stage K g best best-cost x (cost_of K priced g x);
 }
 offer_by K priced g best best-cost p (Err f) = refuse (searching g best best-cost) (InSearch (InRow f) p)
-
-abbrev pub in_search : {X : Type 0} → Result X RowFault → Result X SearchFault
-in_search (Ok x) = Ok x
-in_search (Err f) = Err (InRow f)
 
 -- D, in a session that holds s
 abbrev pub size_step : {M A : Type 0} → Stage A → ℕ → List ℕ → Carried M A

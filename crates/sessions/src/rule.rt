@@ -1,8 +1,2 @@
-// Which bounding rule a session was set up with.
-#[derive(Clone, Copy)]
-pub enum Rule {
-    // the known price of every settled pair of right switches
-    Settled,
-    // that, and the lesser price of every other pair
-    Lesser,
-}
+// Which bounding rule a session was set up with: one of the delivered rules.
+pub use partials::delivered::Rule;

@@ -1,49 +1,51 @@
-use crate::sheet::{Sheet, SheetLink, part};
-use designs::choosing::{ChoiceFault, choose, read_part};
+use crate::plain::{PlainLink, Rows, Sheet, design};
+use designs::choosing::{ChoiceFault, PartFault, choose, read_part};
 use designs::comparing::{Comparison, compare};
 use designs::design::Design;
-use designs::fault::Layer;
+use designs::fault::{Layer, RowFault};
+use measures::link::Class;
 use measures::strands::ByStrands;
 use std::alloc::{AllocError, Global};
+use std::cmp::Ordering;
 use std::process::Abort;
 use std::test::*;
 
-const LINKS: [SheetLink; 6] = [
-    SheetLink {
+const LINKS: [PlainLink; 6] = [
+    PlainLink {
         left: 0,
         right: 2,
         strands: 3,
-        trunk: false,
+        class: Class::Ordinary,
     },
-    SheetLink {
+    PlainLink {
         left: 1,
         right: 0,
         strands: 2,
-        trunk: false,
+        class: Class::Ordinary,
     },
-    SheetLink {
+    PlainLink {
         left: 2,
         right: 1,
         strands: 4,
-        trunk: true,
+        class: Class::Trunk,
     },
-    SheetLink {
+    PlainLink {
         left: 0,
         right: 1,
         strands: 1,
-        trunk: false,
+        class: Class::Ordinary,
     },
-    SheetLink {
+    PlainLink {
         left: 2,
         right: 0,
         strands: 5,
-        trunk: false,
+        class: Class::Ordinary,
     },
-    SheetLink {
+    PlainLink {
         left: 1,
         right: 2,
         strands: 7,
-        trunk: true,
+        class: Class::Trunk,
     },
 ];
 
@@ -56,13 +58,6 @@ const ORDERS: [[u8; 3]; 6] = [
     [2, 1, 0],
 ];
 
-// The rows of a drawing of three and three switches.
-#[derive(Clone, Copy)]
-struct Rows {
-    left: [u8; 3],
-    right: [u8; 3],
-}
-
 // A design, and the same links as a plain list.
 #[derive(Drop)]
 struct Trial {
@@ -71,16 +66,10 @@ struct Trial {
 }
 
 impl Trial {
-    fn new(rt: &impl Abort, heap: Global) -> Result<Trial, Fail> {
-        let mut design = Design::empty(3, 3)?;
-        let mut sheet = Sheet::new(heap);
+    fn new(rt: &(impl Abort + AllocGlobal)) -> Result<Trial, Fail> {
+        let design = design(3, 3, &LINKS)?;
+        let mut sheet = Sheet::new(rt.alloc());
         for link in &LINKS {
-            design.link(
-                link.left,
-                link.right,
-                link.strands,
-                if link.trunk { 1 } else { 0 },
-            )?;
             assert!(rt; sheet.put(*link)?);
         }
         Ok(Trial { design, sheet })
@@ -88,34 +77,32 @@ impl Trial {
 
     // How the costs of two drawings compare, by the list of links.
     fn comparison(&self, one: &Rows, two: &Rows) -> Comparison {
-        let first = self.sheet.cost(&one.left, &one.right).all;
-        let second = self.sheet.cost(&two.left, &two.right).all;
-        if first < second {
-            return Comparison::Fewer;
-        }
-        if first == second {
-            Comparison::Alike
-        } else {
-            Comparison::More
+        let first = one.cost(self.sheet.links()).all;
+        let second = two.cost(self.sheet.links()).all;
+        match first.cmp(&second) {
+            Ordering::Less => Comparison::Fewer,
+            Ordering::Equal => Comparison::Alike,
+            Ordering::Greater => Comparison::More,
         }
     }
 
     // Chooses between two drawings, and compares them.
     fn choose_one(
         &self,
-        rt: &impl Abort,
-        heap: Global,
+        rt: &(impl Abort + AllocGlobal),
         one: &Rows,
         two: &Rows,
     ) -> Result<Comparison, Fail> {
-        let first = part(heap, &one.left, &one.right)?;
-        let second = part(heap, &two.left, &two.right)?;
+        let first = one.bytes(rt.alloc())?;
+        let second = two.bytes(rt.alloc())?;
         let expected = self.comparison(one, two);
         let chosen = choose::<ByStrands>(&self.design, first.as_slice(), second.as_slice())?;
-        match expected {
-            Comparison::More => assert_eq!(rt; chosen, second.as_slice()),
-            _ => assert_eq!(rt; chosen, first.as_slice()),
-        }
+        let cheaper = if expected == Comparison::More {
+            &second
+        } else {
+            &first
+        };
+        assert_eq!(rt; chosen, cheaper.as_slice());
         let first_cost = self
             .design
             .cost::<ByStrands>(&read_part(&self.design, first.as_slice())?);
@@ -127,33 +114,29 @@ impl Trial {
     }
 }
 
+// Every drawing of three and three switches.
 fn all_rows(heap: Global) -> Result<Vec<Rows>, AllocError> {
     let mut rows = Vec::new(heap);
-    for left in ORDERS {
-        for right in ORDERS {
-            rows.push(Rows { left, right })?;
+    for left in &ORDERS {
+        for right in &ORDERS {
+            rows.push(Rows::of(left, right))?;
         }
     }
     Ok(rows)
 }
 
 // Every drawing of the design against every other.
-fn check_choices(rt: &impl Abort, heap: Global) -> Result<(), Fail> {
-    let trial = Trial::new(rt, heap)?;
-    let rows = all_rows(heap)?;
-    let mut fewer = 0u32;
-    let mut alike = 0u32;
+fn check_choices(rt: &(impl Abort + AllocGlobal)) -> Result<(), Fail> {
+    let trial = Trial::new(rt)?;
+    let rows = all_rows(rt.alloc())?;
+    let mut met = Vec::new(rt.alloc());
     for one in rows.iter() {
         for two in rows.iter() {
-            match trial.choose_one(rt, heap, one, two)? {
-                Comparison::Fewer => fewer = fewer.wrapping_add(1),
-                Comparison::Alike => alike = alike.wrapping_add(1),
-                Comparison::More => {}
-            }
+            met.push(trial.choose_one(rt, one, two)?)?;
         }
     }
-    assert!(rt; fewer > 36);
-    assert!(rt; alike > 36);
+    assert!(rt; met.iter().filter(|c| **c == Comparison::Fewer).count() > 36);
+    assert!(rt; met.iter().filter(|c| **c == Comparison::Alike).count() > 36);
     Ok(())
 }
 
@@ -167,7 +150,7 @@ struct Part {
 
 impl Part {
     fn bytes(&self, heap: Global) -> Result<Vec<u8>, AllocError> {
-        let mut bytes = part(heap, self.left, self.right)?;
+        let mut bytes = Rows::of(self.left, self.right).bytes(heap)?;
         bytes.resize(self.length, 255)?;
         Ok(bytes)
     }
@@ -227,12 +210,38 @@ const UNKNOWN_RIGHT: Part = Part {
     length: 48,
 };
 
+// Why a part is refused, with the number and the layer of that cause.
+#[derive(Clone, Copy)]
+struct Refusal {
+    cause: PartFault,
+    number: u8,
+    layer: Layer,
+}
+
+const LENGTH: Refusal = Refusal {
+    cause: PartFault::Length,
+    number: 4,
+    layer: Layer::Script,
+};
+
+const LEFT_ROW: Refusal = Refusal {
+    cause: PartFault::InRow(RowFault::LeftRow),
+    number: 15,
+    layer: Layer::Search,
+};
+
+const RIGHT_ROW: Refusal = Refusal {
+    cause: PartFault::InRow(RowFault::RightRow),
+    number: 16,
+    layer: Layer::Search,
+};
+
 // Two parts, and why they are refused.
 #[derive(Drop)]
 struct FaultCase {
     first: Part,
     second: Part,
-    number: u8,
+    refusal: Refusal,
     place: usize,
 }
 
@@ -240,116 +249,114 @@ const FAULTS: [FaultCase; 14] = [
     FaultCase {
         first: EMPTY,
         second: GOOD,
-        number: 4,
+        refusal: LENGTH,
         place: 0,
     },
     FaultCase {
         first: SHORT,
         second: BOTH_BAD,
-        number: 4,
+        refusal: LENGTH,
         place: 0,
     },
     FaultCase {
         first: LONG,
         second: EMPTY,
-        number: 4,
+        refusal: LENGTH,
         place: 0,
     },
     FaultCase {
         first: TWICE_LEFT,
         second: GOOD,
-        number: 15,
+        refusal: LEFT_ROW,
         place: 0,
     },
     FaultCase {
         first: MORE_LEFT,
         second: SHORT,
-        number: 15,
+        refusal: LEFT_ROW,
         place: 0,
     },
     FaultCase {
         first: BOTH_BAD,
         second: LONG,
-        number: 15,
+        refusal: LEFT_ROW,
         place: 0,
     },
     FaultCase {
         first: FEW_RIGHT,
         second: SHORT,
-        number: 16,
+        refusal: RIGHT_ROW,
         place: 0,
     },
     FaultCase {
         first: UNKNOWN_RIGHT,
         second: TWICE_LEFT,
-        number: 16,
+        refusal: RIGHT_ROW,
         place: 0,
     },
     FaultCase {
         first: GOOD,
         second: EMPTY,
-        number: 4,
+        refusal: LENGTH,
         place: 1,
     },
     FaultCase {
         first: GOOD,
         second: SHORT,
-        number: 4,
+        refusal: LENGTH,
         place: 1,
     },
     FaultCase {
         first: GOOD,
         second: LONG,
-        number: 4,
+        refusal: LENGTH,
         place: 1,
     },
     FaultCase {
         first: GOOD,
         second: BOTH_BAD,
-        number: 15,
+        refusal: LEFT_ROW,
         place: 1,
     },
     FaultCase {
         first: GOOD,
         second: MORE_LEFT,
-        number: 15,
+        refusal: LEFT_ROW,
         place: 1,
     },
     FaultCase {
         first: GOOD,
         second: UNKNOWN_RIGHT,
-        number: 16,
+        refusal: RIGHT_ROW,
         place: 1,
     },
 ];
 
-fn check_fault(rt: &impl Abort, fault: &ChoiceFault, case: &FaultCase) -> Result<(), Fail> {
-    assert_eq!(rt; fault.cause.number(), case.number);
-    assert_eq!(rt; fault.place, case.place);
-    let layer = if case.number == 4 {
-        Layer::Script
-    } else {
-        Layer::Search
-    };
-    assert_eq!(rt; fault.cause.layer(), layer);
-    Ok(())
+impl FaultCase {
+    fn check_fault(&self, rt: &impl Abort, fault: &ChoiceFault) -> Result<(), Fail> {
+        assert_eq!(rt; fault.cause, self.refusal.cause);
+        assert_eq!(rt; fault.cause.number(), self.refusal.number);
+        assert_eq!(rt; fault.cause.layer(), self.refusal.layer);
+        assert_eq!(rt; fault.place, self.place);
+        Ok(())
+    }
 }
 
-fn check_faults(rt: &impl Abort, heap: Global) -> Result<(), Fail> {
+fn check_faults(rt: &(impl Abort + AllocGlobal)) -> Result<(), Fail> {
     let design = Design::empty(2, 2)?;
     for case in &FAULTS {
-        let first = case.first.bytes(heap)?;
-        let second = case.second.bytes(heap)?;
-        match choose::<ByStrands>(&design, first.as_slice(), second.as_slice()) {
-            Ok(_) => return Err(Fail::new("a bad part was taken")),
-            Err(fault) => check_fault(rt, &fault, case)?,
-        }
+        let first = case.first.bytes(rt.alloc())?;
+        let second = case.second.bytes(rt.alloc())?;
+        let Err(fault) = choose::<ByStrands>(&design, first.as_slice(), second.as_slice()) else {
+            return Err(Fail::new("a bad part was taken"));
+        };
+        case.check_fault(rt, &fault)?;
     }
     Ok(())
 }
 
 #[test]
 fn choices_and_faults(rt: HostRuntime) -> Result<(), Fail> {
-    check_choices(&rt, rt.alloc())?;
-    check_faults(&rt, rt.alloc())
+    check_choices(&rt)?;
+    check_faults(&rt)
 }

@@ -1,16 +1,14 @@
-use crate::sheet::{Seed, Sheet, SheetLink, part};
+use crate::plain::{PlainLink, Price, Rows, Seed, Sheet};
 use designs::choosing::read_part;
 use designs::design::Design;
 use designs::fault::{DesignFault, LinkFault};
-use measures::link::Class;
 use measures::strands::ByStrands;
 use measures::trunks::ByTrunks;
-use std::alloc::Global;
 use std::process::Abort;
 use std::test::*;
 
 // What the trials met, so that none of it is left out.
-#[derive(Drop)]
+#[derive(Default, Drop)]
 struct Met {
     full_cells: u32,
     without: u32,
@@ -19,85 +17,74 @@ struct Met {
     both: u32,
 }
 
-// A design, and the same links as a plain list.
-#[derive(Drop)]
-struct Trial {
-    design: Design,
-    sheet: Sheet,
+impl Met {
+    fn add_drawing(&mut self, price: Price) {
+        let number = match (price.trunk > 0, price.rest > 0) {
+            (false, false) => &mut self.without,
+            (true, false) => &mut self.trunk,
+            (false, true) => &mut self.rest,
+            (true, true) => &mut self.both,
+        };
+        *number = number.wrapping_add(1);
+    }
 }
 
-impl Trial {
-    fn new(heap: Global, seed: &mut Seed) -> Result<Trial, Fail> {
+// A design, the same links as a plain list, and what the trials draw and meet.
+#[derive(Drop)]
+struct Trial<'a> {
+    design: Design,
+    sheet: Sheet,
+    seed: &'a mut Seed,
+    met: &'a mut Met,
+}
+
+impl<'a> Trial<'a> {
+    fn new(rt: &impl AllocGlobal, seed: &'a mut Seed, met: &'a mut Met) -> Result<Trial<'a>, Fail> {
         let left = seed.below(5).wrapping_add(1);
         let right = seed.below(5).wrapping_add(1);
         Ok(Trial {
             design: Design::empty(left, right)?,
-            sheet: Sheet::new(heap),
+            sheet: Sheet::new(rt.alloc()),
+            seed,
+            met,
         })
     }
 
-    fn some_link(&self, seed: &mut Seed) -> SheetLink {
-        let left = seed.below(self.design.left_size());
-        let right = seed.below(self.design.right_size());
-        let most = if seed.below(3) == 0 { 255 } else { 20 };
-        let strands = seed.below(most).wrapping_add(1);
-        let trunk = seed.below(5) == 0;
-        SheetLink {
-            left,
-            right,
-            strands,
-            trunk,
-        }
+    fn some_link(&mut self) -> PlainLink {
+        let left = self.seed.below(self.design.left_size());
+        let right = self.seed.below(self.design.right_size());
+        self.seed.link(left, right, 20)
     }
 
     // Puts one link into both, which agree on whether it fits and on its cell afterwards.
-    fn put(&mut self, rt: &impl Abort, seed: &mut Seed, met: &mut Met) -> Result<(), Fail> {
-        let link = self.some_link(seed);
-        let class = if link.trunk { 1 } else { 0 };
-        let put = self.design.link(link.left, link.right, link.strands, class);
+    fn put(&mut self, rt: &impl Abort) -> Result<(), Fail> {
+        let link = self.some_link();
+        let put = link.put_into(&mut self.design);
         if self.sheet.put(link)? {
-            assert_eq!(rt;
-                put,
-                Ok(if link.trunk {
-                    Class::Trunk
-                } else {
-                    Class::Ordinary
-                })
-            );
+            assert_eq!(rt; put, Ok(link.class));
         } else {
             assert_eq!(rt; put, Err(DesignFault::InLink(LinkFault::CellFull)));
-            met.full_cells = met.full_cells.wrapping_add(1);
+            self.met.full_cells = self.met.full_cells.wrapping_add(1);
         }
         let cell = self.design.cell(link.left % 24, link.right % 24);
         let held = self.sheet.at(link.left, link.right);
         assert_eq!(rt; cell.strands, held.strands);
-        assert_eq!(rt; cell.class.is_trunk(), held.trunk);
+        assert_eq!(rt; cell.class, held.class);
         Ok(())
     }
 
     // Compares what one drawing costs.
-    fn draw(
-        &self,
-        rt: &impl Abort,
-        heap: Global,
-        seed: &mut Seed,
-        met: &mut Met,
-    ) -> Result<(), Fail> {
-        let left = seed.row(heap, self.design.left_size())?;
-        let right = seed.row(heap, self.design.right_size())?;
-        let bytes = part(heap, left.as_slice(), right.as_slice())?;
-        let drawing = read_part(&self.design, bytes.as_slice())?;
-        let expected = self.sheet.cost(left.as_slice(), right.as_slice());
+    fn draw(&mut self, rt: &(impl Abort + AllocGlobal)) -> Result<(), Fail> {
+        let left = self.seed.row(rt.alloc(), self.design.left_size())?;
+        let right = self.seed.row(rt.alloc(), self.design.right_size())?;
+        let rows = Rows::of(left.as_slice(), right.as_slice());
+        let drawing = read_part(&self.design, rows.bytes(rt.alloc())?.as_slice())?;
+        let expected = rows.cost(self.sheet.links());
         assert_eq!(rt; self.design.cost::<ByStrands>(&drawing).value, expected.all);
         let pair = self.design.cost::<ByTrunks>(&drawing);
         assert_eq!(rt; pair.trunk, expected.trunk);
         assert_eq!(rt; pair.rest, expected.rest);
-        match (expected.trunk > 0, expected.rest > 0) {
-            (false, false) => met.without = met.without.wrapping_add(1),
-            (true, false) => met.trunk = met.trunk.wrapping_add(1),
-            (false, true) => met.rest = met.rest.wrapping_add(1),
-            (true, true) => met.both = met.both.wrapping_add(1),
-        }
+        self.met.add_drawing(expected);
         Ok(())
     }
 }
@@ -105,20 +92,14 @@ impl Trial {
 #[test]
 fn random_drawings(rt: HostRuntime) -> Result<(), Fail> {
     let mut seed = Seed::new(1);
-    let mut met = Met {
-        full_cells: 0,
-        without: 0,
-        trunk: 0,
-        rest: 0,
-        both: 0,
-    };
+    let mut met = Met::default();
     for _ in 0..300 {
-        let mut trial = Trial::new(rt.alloc(), &mut seed)?;
-        for _ in 0..seed.below(20) {
-            trial.put(&rt, &mut seed, &mut met)?;
+        let mut trial = Trial::new(&rt, &mut seed, &mut met)?;
+        for _ in 0..trial.seed.below(20) {
+            trial.put(&rt)?;
         }
         for _ in 0..3 {
-            trial.draw(&rt, rt.alloc(), &mut seed, &mut met)?;
+            trial.draw(&rt)?;
         }
     }
     assert!(rt; met.full_cells > 50);

@@ -1,4 +1,3 @@
-use scripts::fault::ScriptFault;
 use sessions::session::Session;
 use std::alloc::{AllocError, Global};
 use std::process::Abort;
@@ -7,93 +6,126 @@ use std::test::*;
 // A byte that no line has in its text.
 const UNTOUCHED: u8 = 7;
 
-// What came of a call: the number of its refusal or 0, the next command's byte, and what it wrote.
+// What came of a call: the number of its refusal, if it was refused, the next command's byte, and what it wrote.
 #[derive(Drop)]
 struct Outcome {
-    refused: u8,
+    refused: Option<u8>,
     next: usize,
     text: Vec<u8>,
 }
 
-fn number_of(refused: &Option<ScriptFault>) -> u8 {
-    match refused {
-        Some(fault) => fault.number(),
-        None => 0,
+impl Outcome {
+    fn check(
+        &self,
+        rt: &impl Abort,
+        refused: Option<u8>,
+        next: usize,
+        text: &[u8],
+    ) -> Result<(), Fail> {
+        assert_eq!(rt; self.text.as_slice(), text);
+        assert_eq!(rt; self.refused, refused);
+        assert_eq!(rt; self.next, next);
+        Ok(())
     }
 }
 
-fn check_untouched(rt: &impl Abort, bytes: &[u8]) -> Result<(), Fail> {
-    for b in bytes {
-        assert_eq!(rt; *b, UNTOUCHED);
-    }
-    Ok(())
+// A session that is called as the program calls it, and in other ways.
+#[derive(Drop)]
+struct Player<'a, R> {
+    rt: &'a R,
+    session: Session,
 }
 
-// Calls the session on a line of this length, which is unchanged behind the text.
-fn call(
-    rt: &impl Abort,
-    heap: Global,
-    session: &mut Session,
-    script: &[u8],
-    place: usize,
-    room: usize,
-) -> Result<Outcome, Fail> {
-    let mut line = vec![in heap; UNTOUCHED; room]?;
-    let answer = session.call(script, place, line.as_mut_slice());
-    let written = line
-        .as_slice()
-        .get(0..answer.wrote)
-        .ok_or("more text than line")?;
-    let behind = line
-        .as_slice()
-        .get(answer.wrote..room)
-        .ok_or("more text than line")?;
-    check_untouched(rt, behind)?;
-    let text = written.to_vec(heap)?;
-    Ok(Outcome {
-        refused: number_of(&answer.refused),
-        next: answer.next,
-        text,
-    })
-}
-
-// Plays a script as the program does, call after call: the text of all lines, and the last call's refusal and next byte.
-// A script of so many bytes has at most as many commands.
-fn play(
-    rt: &impl Abort,
-    heap: Global,
-    session: &mut Session,
-    script: &[u8],
-    room: usize,
-) -> Result<Outcome, Fail> {
-    let mut all = Outcome {
-        refused: 0,
-        next: 0,
-        text: Vec::new(heap),
-    };
-    for _ in 0..script.len() {
-        if all.next >= script.len() {
-            break;
+impl<'a, R: Abort + AllocGlobal> Player<'a, R> {
+    fn new(rt: &'a R) -> Player<'a, R> {
+        Player {
+            rt,
+            session: Session::new(),
         }
-        let last = call(rt, heap, session, script, all.next, room)?;
-        all.text.extend_from_slice(last.text.as_slice())?;
-        all.refused = last.refused;
-        all.next = last.next;
     }
-    Ok(all)
-}
 
-fn check_outcome(
-    rt: &impl Abort,
-    outcome: &Outcome,
-    refused: u8,
-    next: usize,
-    text: &[u8],
-) -> Result<(), Fail> {
-    assert_eq!(rt; outcome.text.as_slice(), text);
-    assert_eq!(rt; outcome.refused, refused);
-    assert_eq!(rt; outcome.next, next);
-    Ok(())
+    // Calls the session on a line of this length, which is unchanged behind the text.
+    fn call(&mut self, script: &[u8], place: usize, room: usize) -> Result<Outcome, Fail> {
+        let mut line = vec![in self.rt.alloc(); UNTOUCHED; room]?;
+        let answer = self.session.call(script, place, line.as_mut_slice());
+        let (text, behind) = line
+            .as_slice()
+            .split_at_checked(answer.wrote)
+            .ok_or("more text than line")?;
+        assert!(self.rt; behind.iter().all(|b| *b == UNTOUCHED));
+        Ok(Outcome {
+            refused: answer.refused.map(|fault| fault.number()),
+            next: answer.next,
+            text: text.to_vec(self.rt.alloc())?,
+        })
+    }
+
+    // Plays a script as the program does, call after call: the text of all lines, and the last call's refusal and next
+    // byte. A script of so many bytes has at most as many commands, and a `while` would not be known to end: where the line
+    // is too short, the place stays.
+    fn play(&mut self, script: &[u8], room: usize) -> Result<Outcome, Fail> {
+        let mut all = Outcome {
+            refused: None,
+            next: 0,
+            text: Vec::new(self.rt.alloc()),
+        };
+        for _ in 0..script.len() {
+            if all.next >= script.len() {
+                break;
+            }
+            let last = self.call(script, all.next, room)?;
+            all.text.extend_from_slice(last.text.as_slice())?;
+            all.refused = last.refused;
+            all.next = last.next;
+        }
+        Ok(all)
+    }
+
+    // A line that is too short, before all that is wrong with the script.
+    fn check_short_lines(&mut self, script: &[u8]) -> Result<(), Fail> {
+        for room in [0, 1, 255] {
+            for place in [0, 5, script.len(), usize::MAX] {
+                let outcome = self.call(script, place, room)?;
+                outcome.check(self.rt, Some(1), place, b"")?;
+            }
+        }
+        Ok(())
+    }
+
+    // A place at the end of the script, and places behind it.
+    fn check_ends(&mut self, script: &[u8]) -> Result<(), Fail> {
+        let end = script.len();
+        for place in [
+            end,
+            end.saturating_add(1),
+            end.saturating_add(65536),
+            usize::MAX,
+        ] {
+            let outcome = self.call(script, place, 256)?;
+            let text = format!(in self.rt.alloc(); "refused 4 script {place}\n")?;
+            outcome.check(self.rt, Some(4), end, text.as_bytes())?;
+        }
+        Ok(())
+    }
+
+    // A script that is too long, at any place.
+    fn check_too_long(&mut self, script: &[u8]) -> Result<(), Fail> {
+        for place in [0, 5, 65536, 65537, usize::MAX] {
+            let outcome = self.call(script, place, 256)?;
+            outcome.check(self.rt, Some(2), 65537, b"refused 2 script 0\n")?;
+        }
+        Ok(())
+    }
+
+    // The longest script, of closes, to a session that takes none.
+    fn check_longest(&mut self, script: &[u8]) -> Result<(), Fail> {
+        for place in [0, 5, 65535] {
+            let outcome = self.call(script, place, 256)?;
+            let text = format!(in self.rt.alloc(); "refused 5 script {place}\n")?;
+            outcome.check(self.rt, Some(5), place.wrapping_add(1), text.as_bytes())?;
+        }
+        self.check_ends(script)
+    }
 }
 
 // How a session comes into a condition, and the commands that it takes there.
@@ -136,18 +168,19 @@ const STARTS: [Start; 7] = [
 
 impl Start {
     // A session in this condition.
-    fn session(&self, rt: &impl Abort, heap: Global) -> Result<Session, Fail> {
-        let mut session = Session::new();
-        let outcome = play(rt, heap, &mut session, self.script, 256)?;
-        check_outcome(rt, &outcome, 0, self.script.len(), b"")?;
-        Ok(session)
+    fn player<'a, R: Abort + AllocGlobal>(&self, rt: &'a R) -> Result<Player<'a, R>, Fail> {
+        let mut player = Player::new(rt);
+        let outcome = player.play(self.script, 256)?;
+        outcome.check(rt, None, self.script.len(), b"")?;
+        Ok(player)
     }
 
     // Plays the script with one command more, and gives the last call's outcome.
-    fn then(&self, rt: &impl Abort, heap: Global, command: &[u8]) -> Result<Outcome, Fail> {
-        let mut script = self.script.to_vec(heap)?;
+    fn then(&self, rt: &(impl Abort + AllocGlobal), command: &[u8]) -> Result<Outcome, Fail> {
+        // `[self.script, command].concat(..)` gets no proof, since the two stand at different lifetimes
+        let mut script = self.script.to_vec(rt.alloc())?;
         script.extend_from_slice(command)?;
-        let outcome = play(rt, heap, &mut Session::new(), script.as_slice(), 256)?;
+        let outcome = Player::new(rt).play(script.as_slice(), 256)?;
         assert_eq!(rt; outcome.next, script.len());
         Ok(outcome)
     }
@@ -155,76 +188,72 @@ impl Start {
     // The same, where the script's layer refuses the command.
     fn then_refused(
         &self,
-        rt: &impl Abort,
-        heap: Global,
+        rt: &(impl Abort + AllocGlobal),
         command: &[u8],
         number: u8,
     ) -> Result<(), Fail> {
-        let outcome = self.then(rt, heap, command)?;
+        let outcome = self.then(rt, command)?;
         let at = self.script.len();
-        let text = format!(in heap; "refused {number} script {at}\n")?;
-        assert_eq!(rt; outcome.refused, number);
+        let text = format!(in rt.alloc(); "refused {number} script {at}\n")?;
+        assert_eq!(rt; outcome.refused, Some(number));
         assert_eq!(rt; outcome.text.as_slice(), text.as_bytes());
         Ok(())
     }
 }
 
-// A command: how many bytes of operands it has, and the number that refuses it where all of them are 0.
+// A command: how many bytes of operands it has, and the number that refuses it, if any, where all of them are 0.
 #[derive(Clone, Copy)]
 struct Command {
     letter: u8,
     width: usize,
-    zeros: u8,
+    zeros: Option<u8>,
 }
 
 const COMMANDS: [Command; 5] = [
     Command {
         letter: b'M',
         width: 2,
-        zeros: 6,
+        zeros: Some(6),
     },
     Command {
         letter: b'D',
         width: 2,
-        zeros: 8,
+        zeros: Some(8),
     },
     Command {
         letter: b'L',
         width: 4,
-        zeros: 10,
+        zeros: Some(10),
     },
     Command {
         letter: b'C',
         width: 0,
-        zeros: 0,
+        zeros: None,
     },
     Command {
         letter: b'O',
         width: 48,
-        zeros: 15,
+        zeros: Some(15),
     },
 ];
 
 impl Command {
     // The letter and so many operands, each of them 0.
     fn with_zeros(&self, heap: Global, count: usize) -> Result<Vec<u8>, AllocError> {
-        let mut bytes = Vec::new(heap);
-        bytes.push(self.letter)?;
-        for _ in 0..count {
-            bytes.push(0)?;
-        }
+        let mut bytes = vec![in heap; self.letter]?;
+        bytes.resize(count.saturating_add(1), 0)?;
         Ok(bytes)
     }
 
-    fn check_from(&self, rt: &impl Abort, heap: Global, start: &Start) -> Result<(), Fail> {
+    fn check_from(&self, rt: &(impl Abort + AllocGlobal), start: &Start) -> Result<(), Fail> {
         for count in 0..self.width {
-            start.then_refused(rt, heap, self.with_zeros(heap, count)?.as_slice(), 4)?;
+            start.then_refused(rt, self.with_zeros(rt.alloc(), count)?.as_slice(), 4)?;
         }
-        let whole = self.with_zeros(heap, self.width)?;
+        let whole = self.with_zeros(rt.alloc(), self.width)?;
         if !start.takes.contains(&self.letter) {
-            return start.then_refused(rt, heap, whole.as_slice(), 5);
+            return start.then_refused(rt, whole.as_slice(), 5);
         }
-        assert_eq!(rt; start.then(rt, heap, whole.as_slice())?.refused, self.zeros);
+        assert_eq!(rt; start.then(rt, whole.as_slice())?.refused, self.zeros);
         Ok(())
     }
 }
@@ -234,111 +263,38 @@ impl Command {
 fn operands(rt: HostRuntime) -> Result<(), Fail> {
     for start in &STARTS {
         for command in &COMMANDS {
-            command.check_from(&rt, rt.alloc(), start)?;
+            command.check_from(&rt, start)?;
         }
     }
     Ok(())
-}
-
-fn is_letter(byte: u8) -> bool {
-    matches!(byte, b'M' | b'D' | b'L' | b'C' | b'O')
 }
 
 // Every byte that is no letter, among them 'm', 'S' and 'P', alone and with more behind it.
 #[test]
 fn unknown_letters(rt: HostRuntime) -> Result<(), Fail> {
     for start in &STARTS {
-        for byte in 0..=255u8 {
-            if !is_letter(byte) {
-                start.then_refused(&rt, rt.alloc(), &[byte], 3)?;
-                start.then_refused(&rt, rt.alloc(), &[byte, b'M', 1, 1, b'C'], 3)?;
-            }
+        for byte in (0..=255u8).filter(|byte| !b"MDLCO".contains(byte)) {
+            start.then_refused(&rt, &[byte], 3)?;
+            start.then_refused(&rt, &[byte, b'M', 1, 1, b'C'], 3)?;
         }
     }
     Ok(())
-}
-
-// A line that is too short, before all that is wrong with the script.
-fn check_short_lines(
-    rt: &impl Abort,
-    heap: Global,
-    session: &mut Session,
-    script: &[u8],
-) -> Result<(), Fail> {
-    for room in [0, 1, 255] {
-        for place in [0, 5, script.len(), usize::MAX] {
-            let outcome = call(rt, heap, session, script, place, room)?;
-            check_outcome(rt, &outcome, 1, place, b"")?;
-        }
-    }
-    Ok(())
-}
-
-// A place at the end of the script, and places behind it.
-fn check_ends(
-    rt: &impl Abort,
-    heap: Global,
-    session: &mut Session,
-    script: &[u8],
-) -> Result<(), Fail> {
-    let end = script.len();
-    for place in [
-        end,
-        end.saturating_add(1),
-        end.saturating_add(65536),
-        usize::MAX,
-    ] {
-        let outcome = call(rt, heap, session, script, place, 256)?;
-        let text = format!(in heap; "refused 4 script {place}\n")?;
-        check_outcome(rt, &outcome, 4, end, text.as_bytes())?;
-    }
-    Ok(())
-}
-
-// A script that is too long, at any place.
-fn check_too_long(
-    rt: &impl Abort,
-    heap: Global,
-    session: &mut Session,
-    script: &[u8],
-) -> Result<(), Fail> {
-    for place in [0, 5, 65536, 65537, usize::MAX] {
-        let outcome = call(rt, heap, session, script, place, 256)?;
-        check_outcome(rt, &outcome, 2, 65537, b"refused 2 script 0\n")?;
-    }
-    Ok(())
-}
-
-// The longest script, of closes, to a session that takes none.
-fn check_longest(
-    rt: &impl Abort,
-    heap: Global,
-    session: &mut Session,
-    script: &[u8],
-) -> Result<(), Fail> {
-    for place in [0, 5, 65535] {
-        let outcome = call(rt, heap, session, script, place, 256)?;
-        let text = format!(in heap; "refused 5 script {place}\n")?;
-        check_outcome(rt, &outcome, 5, place.wrapping_add(1), text.as_bytes())?;
-    }
-    check_ends(rt, heap, session, script)
 }
 
 #[test]
 fn lengths(rt: HostRuntime) -> Result<(), Fail> {
-    let heap = rt.alloc();
-    let longest = vec![in heap; b'C'; 65536]?;
-    let too_long = vec![in heap; b'C'; 65537]?;
+    let longest = vec![in rt.alloc(); b'C'; 65536]?;
+    let too_long = vec![in rt.alloc(); b'C'; 65537]?;
     for start in &STARTS {
-        let mut session = start.session(&rt, heap)?;
-        check_short_lines(&rt, heap, &mut session, start.script)?;
-        check_short_lines(&rt, heap, &mut session, b"Z and more")?;
-        check_short_lines(&rt, heap, &mut session, too_long.as_slice())?;
-        check_ends(&rt, heap, &mut session, b"")?;
-        check_ends(&rt, heap, &mut session, start.script)?;
-        check_too_long(&rt, heap, &mut session, too_long.as_slice())?;
+        let mut player = start.player(&rt)?;
+        player.check_short_lines(start.script)?;
+        player.check_short_lines(b"Z and more")?;
+        player.check_short_lines(too_long.as_slice())?;
+        player.check_ends(b"")?;
+        player.check_ends(start.script)?;
+        player.check_too_long(too_long.as_slice())?;
         if !start.takes.contains(&b'C') {
-            check_longest(&rt, heap, &mut session, longest.as_slice())?;
+            player.check_longest(longest.as_slice())?;
         }
     }
     Ok(())
@@ -381,7 +337,7 @@ struct Case {
     pieces: &'static [&'static [u8]],
     room: usize,
     text: &'static [u8],
-    refused: u8,
+    refused: Option<u8>,
     next: usize,
 }
 
@@ -413,140 +369,140 @@ const CASES: [Case; 20] = [
         pieces: &[],
         room: 256,
         text: b"",
-        refused: 0,
+        refused: None,
         next: 0,
     },
     Case {
         pieces: &[SET_1],
         room: 256,
         text: b"",
-        refused: 0,
+        refused: None,
         next: 3,
     },
     Case {
         pieces: &[SET_1, PLAIN],
         room: 255,
         text: b"",
-        refused: 1,
+        refused: Some(1),
         next: 0,
     },
     Case {
         pieces: &[SET_1, PLAIN, ORDER, TURNED, ORDER],
         room: 256,
         text: b"kept 6\ntaken 0\nkept 6\n",
-        refused: 0,
+        refused: None,
         next: 164,
     },
     Case {
         pieces: &[SET_1, PLAIN, ORDER, TURNED, ORDER],
         room: 300,
         text: b"kept 6\ntaken 0\nkept 6\n",
-        refused: 0,
+        refused: None,
         next: 164,
     },
     Case {
         pieces: &[SET_2, PLAIN, ORDER, TURNED, ORDER],
         room: 256,
         text: b"kept 0/6\ntaken 0/0\nkept 0/6\n",
-        refused: 0,
+        refused: None,
         next: 164,
     },
     Case {
         pieces: &[SET_2, ONE_TRUNK, ORDER, TURNED, ORDER],
         room: 256,
         text: b"kept 6/0\ntaken 0/0\nkept 6/0\n",
-        refused: 0,
+        refused: None,
         next: 164,
     },
     Case {
         pieces: &[SET_2, TWO_TRUNKS, ORDER, TURNED],
         room: 256,
         text: b"kept 6/0\ntaken 0/0\n",
-        refused: 0,
+        refused: None,
         next: 115,
     },
     Case {
         pieces: &[SET_2, TWO_TRUNKS, BOTH_TURNED],
         room: 256,
         text: b"kept 6/0\n",
-        refused: 0,
+        refused: None,
         next: 66,
     },
     Case {
         pieces: &[SET_1, REPEATED, ORDER],
         room: 256,
         text: b"kept 6\n",
-        refused: 0,
+        refused: None,
         next: 76,
     },
     Case {
         pieces: &[SET_2, REPEATED, ORDER],
         room: 256,
         text: b"kept 6/0\n",
-        refused: 0,
+        refused: None,
         next: 76,
     },
     Case {
         pieces: &[SET_2, FAN, ORDER, TURNED, BOTH_TURNED],
         room: 256,
         text: b"kept 0/0\nkept 0/0\nkept 0/0\n",
-        refused: 0,
+        refused: None,
         next: 164,
     },
     Case {
         pieces: &[SET_1, TRADE, TURNED_3, ORDER_3],
         room: 256,
         text: b"kept 255\nkept 1\n",
-        refused: 0,
+        refused: None,
         next: 120,
     },
     Case {
         pieces: &[SET_2, TRADE, TURNED_3, ORDER_3],
         room: 256,
         text: b"taken 0/255\nkept 1/0\n",
-        refused: 0,
+        refused: None,
         next: 120,
     },
     Case {
         pieces: &[SET_1, CORNERS, ORDER_24, TURNED_24],
         room: 256,
         text: b"kept 65025\ntaken 0\n",
-        refused: 0,
+        refused: None,
         next: 115,
     },
     Case {
         pieces: &[SET_2, CORNERS, ORDER_24, TURNED_24],
         room: 256,
         text: b"kept 65025/0\ntaken 0/0\n",
-        refused: 0,
+        refused: None,
         next: 115,
     },
     Case {
         pieces: &[SET_1, PLAIN, TURNED, PLAIN, BOTH_TURNED, TURNED],
         room: 256,
         text: b"taken 0\nkept 6\ntaken 0\n",
-        refused: 0,
+        refused: None,
         next: 178,
     },
     Case {
         pieces: &[b"M\x03\x01", SET_1, b"D\x19\x02", b"C"],
         room: 256,
         text: b"refused 6 setup 0\nrefused 8 design 6\nrefused 5 script 9\n",
-        refused: 5,
+        refused: Some(5),
         next: 10,
     },
     Case {
         pieces: &[b"M\x02\x03"],
         room: 256,
         text: b"refused 7 setup 0\n",
-        refused: 7,
+        refused: Some(7),
         next: 3,
     },
     Case {
         pieces: &[SET_1, PLAIN, TURNED, SET_2],
         room: 256,
         text: b"taken 0\nrefused 5 script 66\n",
-        refused: 5,
+        refused: Some(5),
         next: 69,
     },
 ];
@@ -554,18 +510,9 @@ const CASES: [Case; 20] = [
 #[test]
 fn whole_scripts(rt: HostRuntime) -> Result<(), Fail> {
     for case in &CASES {
-        let mut script = Vec::new(rt.alloc());
-        for piece in case.pieces {
-            script.extend_from_slice(*piece)?;
-        }
-        let outcome = play(
-            &rt,
-            rt.alloc(),
-            &mut Session::new(),
-            script.as_slice(),
-            case.room,
-        )?;
-        check_outcome(&rt, &outcome, case.refused, case.next, case.text)?;
+        let script = case.pieces.concat(rt.alloc())?;
+        let outcome = Player::new(&rt).play(script.as_slice(), case.room)?;
+        outcome.check(&rt, case.refused, case.next, case.text)?;
     }
     Ok(())
 }

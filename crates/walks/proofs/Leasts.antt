@@ -1,21 +1,24 @@
 -- The least bound of the open nodes, level by level.
-use Rattle.std.proofs.Common.{◌≡◌, ℕ, zero, suc, ◌+◌, ◌-◌, ◌<◌, ◌≤◌, ltb, List, [], ◌∷◌, ◌++◌, length, get_or, take, drop, sym, refl, ap, ◌∙◌, ⊎_elim, arith, drop_of_length-le}
-use mathlib.Core.Logic.{∥∥₁_elim}
+use Rattle.std.proofs.Common.{◌≡◌, ℕ, zero, suc, ◌+◌, ◌-◌, ◌<◌, ltb, List, [], ◌∷◌, ◌++◌, length, drop, reverse, fold, sym, refl, ap, ◌∙◌, ⊎_elim, arith, drop_of_length-le}
+use mathlib.Core.Logic.{∥∥₁_elim, ∥∥₁_map}
 use native.Mathlib.Nat.{ℕ_set}
 use Rattle.std.proofs.lemmas.Bool.{cond_both, cases_lt, cond-true, cond-false, lt-ltb, le-ltb}
+use Rattle.std.proofs.lemmas.List.{reverse-append}
+use Rattle.std.proofs.lemmas.List.Sums.{fold-append}
 use Rattle.measures.specs.Amounts.{Kind}
-use Rattle.designs.specs.Grids.{Grid}
+use Rattle.designs.specs.Grids.{Grid, grid_of}
 use Rattle.partials.specs.Nodes.{partial_of}
 use Rattle.partials.specs.Partials.{Partial, PartialOf}
 use Rattle.partials.specs.Rules.{lesser}
 use Rattle.partials.specs.Tree.{children, child_count}
 use Rattle.partials.proofs.Counted.{children_left, children_right}
+use Rattle.walks.specs.Frontiers.{frontier_of, lesser_at}
 use Rattle.walks.specs.Paths.{OnPath, open_at, open_on}
 use Rattle.walks.specs.Walk.{Open, all_open, least_of}
 use Rattle.walks.specs.declared.level.Level.{Level}
-use Rattle.walks.proofs.OnPaths.{top_frontier, deepest, lawful_part}
+use Rattle.walks.specs.declared.path.Path.{Path}
 
-pub count_children : (g : Grid) (p : Partial) → PartialOf g p → child_count g p ≡ length (children g p)
+count_children : (g : Grid) (p : Partial) → PartialOf g p → child_count g p ≡ length (children g p)
 count_children g p v =
     let k = length p.placed in
     ⊎_elim
@@ -42,22 +45,27 @@ module _ {A : Type 0} (K : Kind A) where
   least_left l b (p ∷ ps) zero h = least_same l b ps
   least_left l b (p ∷ ps) (suc t) h = least_left l b ps t (omega arith)
 
-  -- the deepest of d levels of a path
-  module _ (g : Grid) (levels : List (Level A)) (d n : ℕ) (pos : 0 < d) (part : d ≤ n) (inside : n ≤ length levels) (x : Level A) (is : x ≡ get_or levels (d - 1) x) (h : ∥ OnPath g 0 (take n levels) ∥₁) (l : A) where
-    abbrev kids : List Partial
-    kids = children g (partial_of x.node)
+  -- one level: all its open nodes inherited its bound
+  least_at : (g : Grid) (x : Level A) (l : A) → child_count g (partial_of x.node) ≡ length (children g (partial_of x.node)) → lesser_at K g l x ≡ least_of K l (open_at g x)
+  least_at g x l e =
+      let kids = children g (partial_of x.node) in
+      let n = child_count g (partial_of x.node) in
+      ⊎_elim
+      (λ h. cond-true (ltb x.tried n) (lesser K l x.bound) l (lt-ltb x.tried n h) ∙ sym (least_left l x.bound kids x.tried (omega (arith, e))))
+      (λ h. cond-false (ltb x.tried n) (lesser K l x.bound) l (le-ltb x.tried n h) ∙ ap (λ ps. least_of K l (all_open x.bound ps)) (sym (drop_of_length-le kids {i = x.tried} (omega (arith, e)))))
+      (cases_lt x.tried n)
 
-    abbrev above : List (Open A)
-    above = open_on g (take (d - 1) levels)
+  -- the levels of a path, the deepest first
+  least_on : (g : Grid) (d : ℕ) (xs : List (Level A)) (l : A) → ∥ OnPath g d xs ∥₁ → fold (lesser_at K g) l (reverse xs) ≡ least_of K l (open_on g xs)
+  least_on g d [] l h = refl
+  least_on g d (x ∷ xs) l h =
+      let f = lesser_at K g in
+      let count = ∥∥₁_elim h (ℕ_set _ _) (λ p. count_children g (partial_of x.node) p.0.0) in
+      ap (fold f l) (reverse-append (x ∷ []) xs)
+      ∙ (fold-append f l (reverse xs) (x ∷ [])
+      ∙ (ap (λ z. f z x) (least_on g (suc d) xs l (∥∥₁_map h (λ p. p.1)))
+      ∙ (least_at g x (least_of K l (open_on g xs)) count ∙ sym (least_append l (open_on g xs) (open_at g x)))))
 
-    whole : least_of K l (open_on g (take d levels)) ≡ least_of K (least_of K l (open_at g x)) above
-    whole = ap (least_of K l) (top_frontier g levels d pos (omega arith) x is) ∙ least_append l (open_at g x) above
-
-    count : child_count g (partial_of x.node) ≡ length kids
-    count = ∥∥₁_elim h (ℕ_set _ _) (λ p. count_children g (partial_of x.node) (deepest g levels d pos (omega arith) x is (lawful_part g levels d n part p)).0)
-
-    pub level_spent : child_count g (partial_of x.node) ≤ x.tried → least_of K l (open_on g (take d levels)) ≡ least_of K l above
-    level_spent e = whole ∙ ap (λ ps. least_of K (least_of K l (all_open x.bound ps)) above) (drop_of_length-le kids {i = x.tried} (omega (arith, count)))
-
-    pub level_open : x.tried < child_count g (partial_of x.node) → least_of K l (open_on g (take d levels)) ≡ least_of K (lesser K l x.bound) above
-    level_open e = whole ∙ ap (λ z. least_of K z above) (least_left l x.bound kids x.tried (omega (arith, count)))
+-- a path's open nodes
+pub least_of_path : {A : Type 0} (K : Kind A) (s : Path A) (l : A) → fold (lesser_at K (grid_of s.design)) l (reverse s.levels.items) ≡ least_of K l (frontier_of s)
+least_of_path K s l = least_on K (grid_of s.design) 0 s.levels.items l s.lawful

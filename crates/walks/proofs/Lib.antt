@@ -1,5 +1,6 @@
 pub mod Coverage
 pub mod Leasts
+pub mod Moving
 pub mod OnPaths
 pub mod Starts
 pub mod Steps

@@ -1,16 +1,37 @@
 -- Paths that grow and shrink at their deep end.
-use Rattle.std.proofs.Common.{◌≡◌, ℕ, zero, suc, ◌+◌, ◌-◌, ◌<◌, ◌≤◌, ◌⊎◌, List, [], ◌∷◌, ◌++◌, length, get_or, take, drop, set, Some, None, sym, refl, ap, ◌∙◌, subst, ⊎_elim, append_assoc, append-nil, arith, All}
-use mathlib.Core.Logic.{∥∥₁_map}
+use Rattle.std.proofs.Common.{◌≡◌, ℕ, zero, suc, ◌+◌, ◌-◌, ◌<◌, List, [], ◌∷◌, ◌++◌, length, get_or, take, drop, set, Some, None, sym, refl, ap, ◌∙◌, subst, append_assoc, append-nil, arith, length-set, length-append, All}
+use mathlib.Core.Logic.{∥∥₁_map, ∥∥₁_map₂}
+use Rattle.arrayvec.specs.ArrayVec.{ArrayVec, array_vec_len, with_items}
+use Rattle.arrayvec.proofs.ArrayVecLemmas.{items-with_items}
 use Rattle.designs.specs.Grids.{Grid}
 use Rattle.partials.specs.Nodes.{partial_of}
-use Rattle.partials.specs.Partials.{Partial, PartialOf}
+use Rattle.partials.specs.Partials.{Partial}
 use Rattle.partials.specs.Tree.{children, nth}
 use Rattle.partials.specs.Children.{put_valid, add_valid, all_children, length-put}
-use Rattle.std.proofs.lemmas.List.{length_push, length-take-le, take_more, take_more_set, take-take, take-append-drop}
+use Rattle.std.proofs.lemmas.List.{length_push, take_all, take_more, take_more_set}
 use Rattle.std.proofs.lemmas.List.Elements.{All-head, All-tail}
 use Rattle.walks.specs.Paths.{Deep, OnPath, open_at, open_on}
 use Rattle.walks.specs.Walk.{all_open}
 use Rattle.walks.specs.declared.level.Level.{Level}
+
+-- a vector with a last element, and the same after a write of that element
+module _ {X : Type 0} (v : ArrayVec X) (xs : List X) (e : xs ≡ v.items) (some : 0 < length xs) where
+  lt : length xs - 1 < length xs
+  lt = omega arith
+
+  top : length xs - 1 + 1 ≡ length xs
+  top = omega arith
+
+  pub with_last : (x : X) → x ≡ get_or xs (length xs - 1) x → v.items ≡ take (array_vec_len v - 1) v.items ++ (x ∷ [])
+  with_last x is = subst (λ ys. v.items ≡ take (length ys - 1) ys ++ (x ∷ [])) e
+      (sym e ∙ (sym (take_all (length xs) xs (omega arith)) ∙ (ap (λ n. take n xs) (sym top) ∙ (take_more xs (length xs - 1) x lt ∙ ap (λ y. take (length xs - 1) xs ++ (y ∷ [])) (sym is)))))
+
+  pub written_last : (y : X) → (with_items v (set xs (length xs - 1) y)).items ≡ take (array_vec_len v - 1) v.items ++ (y ∷ [])
+  written_last y =
+      let ys = set xs (length xs - 1) y in
+      let same : length ys ≡ length xs = length-set xs (length xs - 1) y in
+      items-with_items v ys (same ∙ ap length e)
+      ∙ (sym (take_all (length xs) ys (omega (arith, same))) ∙ (ap (λ n. take n ys) (sym top) ∙ (take_more_set xs (length xs - 1) y lt ∙ ap (λ zs. take (length zs - 1) zs ++ (y ∷ [])) e)))
 
 module _ {A : Type 0} (g : Grid) where
   -- a level more: its open nodes come first
@@ -53,84 +74,46 @@ child_deep g l p d = all_children g p d.0 (Deep g (l + 1))
     (λ i h. (put_valid g p d.0 i h, omega (arith, length-put i (length p.placed) p.placed, d.1, ap length (d.0.early h))))
     (λ u h f. (add_valid g p d.0 u h f, omega (arith, length_push p.prefix u, d.1)))
 
--- a path in an array
-module _ {A : Type 0} (g : Grid) (levels : List (Level A)) (d : ℕ) where
-  pub frontier_more : (x : Level A) → d < length levels → open_on g (take (d + 1) (set levels d x)) ≡ open_at g x ++ open_on g (take d levels)
-  frontier_more x l = ap (open_on g) (take_more_set levels d x l) ∙ open_more g (take d levels) x
+-- a level with one child more taken
+abbrev pub taken_more : {A : Type 0} → Level A → Level A
+taken_more x = record { node = x.node; bound = x.bound; tried = x.tried + 1 }
 
-  pub lawful_more : (x : Level A) → d < length levels → Deep g d (partial_of x.node) → OnPath g 0 (take d levels) → OnPath g 0 (take (d + 1) (set levels d x))
-  lawful_more x l h p =
-      let e : d ≡ 0 + length (take d levels) = omega (arith, length-take-le d levels (omega arith)) in
-      subst (OnPath g 0) (sym (take_more_set levels d x l)) (path_more g 0 (take d levels) x p (subst (λ n. Deep g n (partial_of x.node)) e h))
+-- xs is a path with the deepest level x, and up is the path above it
+module _ {A : Type 0} (g : Grid) (xs up : List (Level A)) (x : Level A) (e : xs ≡ up ++ (x ∷ [])) where
+  abbrev kids : List Partial
+  kids = children g (partial_of x.node)
 
-  -- the deepest level, and the path above it
-  pub frontier_top : (x : Level A) → d < length levels → x ≡ get_or levels d x → open_on g (take (d + 1) levels) ≡ open_at g x ++ open_on g (take d levels)
-  frontier_top x l e = ap (open_on g) (take_more levels d x l ∙ ap (λ y. take d levels ++ (y ∷ [])) (sym e)) ∙ open_more g (take d levels) x
+  from_top : 0 + length up ≡ length up
+  from_top = omega arith
 
-  pub lawful_above : d < length levels → Level A → OnPath g 0 (take (d + 1) levels) → OnPath g 0 (take d levels)
-  lawful_above l x p = path_fewer g 0 (take d levels) (get_or levels d x ∷ []) (subst (OnPath g 0) (take_more levels d x l) p)
+  pub frontier_more : open_on g xs ≡ open_at g x ++ open_on g up
+  frontier_more = ap (open_on g) e ∙ open_more g up x
 
-  pub top_deep : (x : Level A) → d < length levels → x ≡ get_or levels d x → OnPath g 0 (take (d + 1) levels) → Deep g d (partial_of x.node)
-  top_deep x l e p =
-      let n : 0 + length (take d levels) ≡ d = omega (arith, length-take-le d levels (omega arith)) in
-      subst (λ k. Deep g k (partial_of x.node)) n (path_last g 0 (take d levels) x (subst (OnPath g 0) (take_more levels d x l ∙ ap (λ y. take d levels ++ (y ∷ [])) (sym e)) p))
+  pub lawful_more : ∥ Deep g (length up) (partial_of x.node) ∥₁ → ∥ OnPath g 0 up ∥₁ → ∥ OnPath g 0 xs ∥₁
+  lawful_more d h = ∥∥₁_map₂ d h (λ q p. subst (OnPath g 0) (sym e) (path_more g 0 up x p (subst (λ n. Deep g n (partial_of x.node)) (sym from_top) q)))
 
--- a part of a path from the root down
-pub lawful_part : {A : Type 0} (g : Grid) (levels : List (Level A)) (d n : ℕ) → d ≤ n → OnPath g 0 (take n levels) → OnPath g 0 (take d levels)
-lawful_part g levels d n h p =
-    subst (OnPath g 0) (take-take d n levels h) (path_fewer g 0 (take d (take n levels)) (drop d (take n levels)) (subst (OnPath g 0) (sym (take-append-drop d (take n levels))) p))
+  pub lawful_above : ∥ OnPath g 0 xs ∥₁ → ∥ OnPath g 0 up ∥₁
+  lawful_above h = ∥∥₁_map h (λ p. path_fewer g 0 up (x ∷ []) (subst (OnPath g 0) e p))
 
--- a level with so many children taken
-abbrev pub taken_to : {A : Type 0} → Level A → ℕ → Level A
-taken_to x n = record { node = x.node; bound = x.bound; tried = n }
+  pub deepest : ∥ OnPath g 0 xs ∥₁ → ∥ Deep g (length up) (partial_of x.node) ∥₁
+  deepest h = ∥∥₁_map h (λ p. subst (λ n. Deep g n (partial_of x.node)) from_top (path_last g 0 up x (subst (OnPath g 0) e p)))
 
--- the deepest of D levels: without a child left it is given up, with one the child is the first open node
-module _ {A : Type 0} (g : Grid) (levels : List (Level A)) (D : ℕ) (pos : 0 < D) (inside : D ≤ length levels) (x : Level A) (is : x ≡ get_or levels (D - 1) x) where
-  at_top : D - 1 + 1 ≡ D
-  at_top = omega arith
+  -- without a child left the deepest level is given up
+  pub back_frontier : None ≡ nth kids x.tried → open_on g up ≡ open_on g xs
+  back_frontier n = sym (frontier_more ∙ ap (λ ps. all_open x.bound ps ++ open_on g up) (nth_none kids x.tried (sym n)))
 
-  lt : D - 1 < length levels
-  lt = omega arith
+-- with a child left, that child is the first open node, and ys is the path after it was taken
+module _ {A : Type 0} (g : Grid) (xs ys up : List (Level A)) (x : Level A) (e : xs ≡ up ++ (x ∷ [])) (f : ys ≡ up ++ (taken_more x ∷ [])) where
+  pub taken_lawful : ∥ OnPath g 0 xs ∥₁ → ∥ OnPath g 0 ys ∥₁
+  taken_lawful h = lawful_more g ys up (taken_more x) f (deepest g xs up x e h) (lawful_above g xs up x e h)
 
-  pub top_frontier : open_on g (take D levels) ≡ open_at g x ++ open_on g (take (D - 1) levels)
-  top_frontier = ap (λ n. open_on g (take n levels)) (sym at_top) ∙ frontier_top g levels (D - 1) x lt is
+  module _ (c : Partial) (is : Some c ≡ nth (children g (partial_of x.node)) x.tried) where
+    pub taken_deep : ∥ OnPath g 0 xs ∥₁ → ∥ Deep g (length ys) c ∥₁
+    taken_deep h =
+        let n : length up + 1 ≡ length ys = omega (arith, ap length f, length-append up (taken_more x ∷ [])) in
+        ∥∥₁_map (deepest g xs up x e h) (λ d. subst (λ k. Deep g k c) n (nth_all (Deep g (length up + 1)) (children g (partial_of x.node)) x.tried c (child_deep g (length up) (partial_of x.node) d) (sym is)))
 
-  pub back_frontier : None ≡ nth (children g (partial_of x.node)) x.tried → open_on g (take (D - 1) levels) ≡ open_on g (take D levels)
-  back_frontier e = sym (top_frontier ∙ ap (λ ps. all_open x.bound ps ++ open_on g (take (D - 1) levels)) (nth_none (children g (partial_of x.node)) x.tried (sym e)))
-
-  pub back_lawful : ∥ OnPath g 0 (take D levels) ∥₁ → ∥ OnPath g 0 (take (D - 1) levels) ∥₁
-  back_lawful h = ∥∥₁_map h (λ p. lawful_above g levels (D - 1) lt x (subst (λ n. OnPath g 0 (take n levels)) (sym at_top) p))
-
-  pub deepest : OnPath g 0 (take D levels) → Deep g (D - 1) (partial_of x.node)
-  deepest p = top_deep g levels (D - 1) x lt is (subst (λ n. OnPath g 0 (take n levels)) (sym at_top) p)
-
-  pub taken_lawful : ∥ OnPath g 0 (take D levels) ∥₁ → ∥ OnPath g 0 (take D (set levels (D - 1) (taken_to x (x.tried + 1)))) ∥₁
-  taken_lawful h = ∥∥₁_map h (λ p.
-      let n = taken_to x (x.tried + 1) in
-      subst (λ k. OnPath g 0 (take k (set levels (D - 1) n))) at_top
-      (lawful_more g levels (D - 1) n lt (deepest p) (lawful_above g levels (D - 1) lt x (subst (λ k. OnPath g 0 (take k levels)) (sym at_top) p))))
-
-  module _ (c : Partial) (e : Some c ≡ nth (children g (partial_of x.node)) x.tried) where
-    pub taken_deep : ∥ OnPath g 0 (take D levels) ∥₁ → ∥ Deep g D c ∥₁
-    taken_deep h = ∥∥₁_map h (λ p. subst (λ n. Deep g n c) at_top (nth_all (Deep g (D - 1 + 1)) (children g (partial_of x.node)) x.tried c (child_deep g (D - 1) (partial_of x.node) (deepest p)) (sym e)))
-
-    pub taken_frontier : open_on g (take D levels) ≡ record { node = c; inherited = x.bound } ∷ open_on g (take D (set levels (D - 1) (taken_to x (x.tried + 1))))
+    pub taken_frontier : open_on g xs ≡ record { node = c; inherited = x.bound } ∷ open_on g ys
     taken_frontier =
-        let kids = children g (partial_of x.node) in
-        let above = open_on g (take (D - 1) levels) in
-        let n = taken_to x (x.tried + 1) in
-        let after = ap (λ k. open_on g (take k (set levels (D - 1) n))) (sym at_top) ∙ frontier_more g levels (D - 1) n lt in
-        top_frontier ∙ (ap (λ ps. all_open x.bound ps ++ above) (nth_some kids x.tried c (sym e)) ∙ ap (λ os. record { node = c; inherited = x.bound } ∷ os) (sym after))
-
--- a path of one level, the root, or of none
-module _ {A : Type 0} (g : Grid) (x : Level A) (xs : List (Level A)) (n : ℕ) where
-  pub begun_open : n ≡ 1 → open_on g (take n (x ∷ xs)) ≡ open_at g x
-  begun_open e = ap (λ k. open_on g (take k (x ∷ xs))) e
-
-  pub begun_closed : n ≡ 0 → open_on g (take n (x ∷ xs)) ≡ []
-  begun_closed e = ap (λ k. open_on g (take k (x ∷ xs))) e
-
-  pub begun_lawful : PartialOf g (partial_of x.node) → (n ≡ 1) ⊎ (n ≡ 0) → ∥ OnPath g 0 (take n (x ∷ xs)) ∥₁
-  begun_lawful v = ⊎_elim
-      (λ e. subst (λ k. ∥ OnPath g 0 (take k (x ∷ xs)) ∥₁) (sym e) ∣ ((v, omega arith), tt) ∣₁)
-      (λ e. subst (λ k. ∥ OnPath g 0 (take k (x ∷ xs)) ∥₁) (sym e) ∣ tt ∣₁)
+        let above = open_on g up in
+        frontier_more g xs up x e ∙ (ap (λ ps. all_open x.bound ps ++ above) (nth_some (children g (partial_of x.node)) x.tried c (sym is)) ∙ ap (λ os. record { node = c; inherited = x.bound } ∷ os) (sym (frontier_more g ys up (taken_more x) f)))

@@ -4,8 +4,7 @@ use Rattle.std.proofs.lemmas.List.Elements.{All-weaker}
 use Rattle.std.proofs.lemmas.Bool.{cond_both}
 use Rattle.measures.specs.Amounts.{Kind, Lawful, AtMost}
 use Rattle.measures.specs.declared.link.Link.{Link}
-use Rattle.designs.specs.Grids.{Grid, grid_of}
-use Rattle.designs.specs.declared.design.Design.{Design}
+use Rattle.designs.specs.Grids.{Grid}
 use Rattle.designs.specs.Readings.{TwoRows, cost_of}
 use Rattle.partials.specs.Partials.{Partial, PartialOf, DrawingOf, Completes}
 use Rattle.partials.specs.Tree.{nodes_below}
@@ -75,9 +74,3 @@ report_true K priced g root w r is t = record {
   least = λ e. subst (NoneBelow K g (cost_of K priced g) root) (sym is.cost) (t.least (sym is.done ∙ e));
   counted = omega (arith, is.opened, t.counted);
 }
-
--- the same search of the same design
-pub reached_same : {A : Type 0} (K : Kind A) (priced : Link → Link → A) (answered : Grid → Partial → A) (root : Partial) (d e : Design) (w v : Walk A) → e ≡ d → v ≡ w
-    → Reached K (grid_of d) (cost_of K priced (grid_of d)) (answered (grid_of d)) root w → Reached K (grid_of e) (cost_of K priced (grid_of e)) (answered (grid_of e)) root v
-reached_same K priced answered root d e w v i j r =
-    subst (λ c. Reached K (grid_of c) (cost_of K priced (grid_of c)) (answered (grid_of c)) root v) (sym i) (subst (Reached K (grid_of d) (cost_of K priced (grid_of d)) (answered (grid_of d)) root) (sym j) r)

@@ -4,7 +4,8 @@ use mathlib.Core.Bool.{Bool-set}
 use mathlib.Core.Logic.{∥∥₁_elim}
 use native.Mathlib.Bridge.{le_prop}
 use Rattle.std.proofs.lemmas.Bool.{cases_Bool, cases_eq, both_ways, and_from, and_parts, eq-eqb}
-use Rattle.designs.specs.Grids.{Grid, on_some}
+use Rattle.designs.specs.Grids.{Grid}
+use Rattle.std.specs.Option.{option_map}
 use Rattle.designs.specs.Readings.{TwoRows, rows_of, rows_named}
 use Rattle.designs.specs.Rows.{each_once, is_order}
 use Rattle.designs.specs.declared.drawing.Drawing.{Drawing}
@@ -37,7 +38,7 @@ orders_whole g p v =
 pub whole_named : (g : Grid) (d : ℕ) (p : Partial) → ∥ Deep g d p ∥₁ → rows_named g p.placed p.prefix ≡ cond (is_whole g p) (Some (drawn p)) None
 whole_named g d p h = ap (λ b. cond b (Some (drawn p)) None) (∥∥₁_elim h (Bool-set _ _) (λ v. orders_whole g p v.0))
 
-pub found : (r : Option Drawing) (b : Bool) (x : TwoRows) → on_some rows_of r ≡ cond b (Some x) None → MatchOption r (b ≡ false) (λ y. (b ≡ true) × (rows_of y ≡ x))
+pub found : (r : Option Drawing) (b : Bool) (x : TwoRows) → option_map rows_of r ≡ cond b (Some x) None → MatchOption r (b ≡ false) (λ y. (b ≡ true) × (rows_of y ≡ x))
 found None true x e = cc
 found None false x e = refl
 found (Some y) true x e = (refl, cc)

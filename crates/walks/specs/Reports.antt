@@ -35,5 +35,5 @@ pub record TrueReport {A : Type 0} (K : Kind A) (priced : Link → Link → A) (
   pub counted : r.opened ≤ nodes_below g root
 
 -- whatever lawful rule a walk goes by, and whatever its root is, its report is true
-abbrev pub AlwaysTrue : {M A : Type 0} {gm : MeasureGhosts M A} {ga : AmountGhosts A} → Kind A → (Link → Link → A) → Search M A gm ga → Report A → Type 0
-AlwaysTrue {A = A} K priced s r = (answered : Grid → Partial → A) (root : Partial) → Bounding K priced answered → SearchBelow K priced answered root s → TrueReport K priced (grid_in s) root r
+abbrev pub AlwaysTrue : {M A : Type 0} {gm : MeasureGhosts M A} {ga : AmountGhosts A} → Search M A gm ga → Report A → Type 0
+AlwaysTrue {A = A} {gm = gm} {ga = ga} s r = (answered : Grid → Partial → A) (root : Partial) → Bounding ga.kind gm.priced answered → SearchBelow answered root s → TrueReport ga.kind gm.priced (grid_in s) root r

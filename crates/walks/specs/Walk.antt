@@ -1,5 +1,5 @@
 -- The depth-first branch and bound.
-use Rattle.std.specs.Prelude.{ℕ, zero, suc, ◌+◌, Bool, cond, List, [], ◌∷◌, ◌++◌}
+use Rattle.std.specs.Prelude.{ℕ, zero, suc, ◌+◌, Bool, List, [], ◌∷◌, ◌++◌, if◌then◌else◌}
 use Rattle.measures.specs.Amounts.{Kind}
 use Rattle.designs.specs.Grids.{Grid}
 use Rattle.designs.specs.Readings.{TwoRows}
@@ -38,9 +38,9 @@ is_done K w = K.at_most w.least (lower_bound K w)
 -- a drawing is taken if it costs less
 abbrev pub take_better : {A : Type 0} → Kind A → (TwoRows → A) → TwoRows → A → ℕ → List (Open A) → TwoRows → Walk A
 take_better K cost best least opened rest x =
-    cond (K.at_most least (cost x))
-    (record { incumbent = best; least = least; opened = opened; frontier = rest })
-    (record { incumbent = x; least = cost x; opened = opened; frontier = rest })
+    if K.at_most least (cost x)
+    then record { incumbent = best; least = least; opened = opened; frontier = rest }
+    else record { incumbent = x; least = cost x; opened = opened; frontier = rest }
 
 -- an offered drawing
 abbrev pub offer : {A : Type 0} → Kind A → (TwoRows → A) → TwoRows → Walk A → Walk A
@@ -49,9 +49,9 @@ offer K cost x w = take_better K cost w.incumbent w.least w.opened w.frontier x
 -- a node that was taken off the frontier: pruned, compared if it is a whole drawing, else its children come first
 abbrev pub visit : {A : Type 0} → Kind A → Grid → (TwoRows → A) → A → Partial → Walk A → Walk A
 visit K g cost bound p w =
-    cond (K.at_most w.least bound) w
-    (cond (is_whole g p) (offer K cost (drawn p) w)
-    (record { incumbent = w.incumbent; least = w.least; opened = w.opened; frontier = all_open bound (children g p) ++ w.frontier }))
+    if K.at_most w.least bound then w
+    else (if is_whole g p then offer K cost (drawn p) w
+    else record { incumbent = w.incumbent; least = w.least; opened = w.opened; frontier = all_open bound (children g p) ++ w.frontier })
 
 -- a design, what its drawings cost, and what a rule answers of its partial drawings
 module _ {A : Type 0} (K : Kind A) (g : Grid) (cost : TwoRows → A) (answer : Partial → A) where
@@ -61,7 +61,7 @@ module _ {A : Type 0} (K : Kind A) (g : Grid) (cost : TwoRows → A) (answer : P
     incumbent = first;
     least = cost first;
     opened = 0;
-    frontier = cond (K.at_most (cost first) (answer root)) [] (all_open (answer root) (children g root));
+    frontier = if K.at_most (cost first) (answer root) then [] else all_open (answer root) (children g root);
   }
 
   -- the first open node: its bound is the greater of its parent's and the rule's answer
@@ -76,4 +76,4 @@ module _ {A : Type 0} (K : Kind A) (g : Grid) (cost : TwoRows → A) (answer : P
   -- up to so many nodes, until the walk is done
   abbrev pub run : ℕ → Walk A → Walk A
   run zero w = w
-  run (suc b) w = cond (is_done K w) w (run b (open_one w))
+  run (suc b) w = if is_done K w then w else run b (open_one w)

@@ -1,11 +1,12 @@
 ghost use Rattle.std.specs.Prelude.{◌≡◌};
 ghost use Rattle.walks.specs.Runs.{run_number};
 
-// Why a run is refused: 0 or more than 1,000,000 nodes asked for, or more than 1,000,000,000 with those opened before.
+// Why a run is refused, and the number of each refusal: 0 or more than 1,000,000 nodes asked for, or more than
+// 1,000,000,000 with those opened before.
 #[derive(Clone, Copy, PartialEq, Eq, Debug)]
 pub enum RunFault {
-    Nodes,
-    Total,
+    Nodes = 13,
+    Total = 14,
 }
 
 impl RunFault {
@@ -13,9 +14,6 @@ impl RunFault {
     pub fn number(&self) -> u8
         ensures { result ≡ run_number self.now }
     {
-        match self {
-            RunFault::Nodes => 13,
-            RunFault::Total => 14,
-        }
+        *self as u8
     }
 }

@@ -1,8 +1,8 @@
-ghost use Rattle.std.specs.Prelude.{◌≡◌, ℕ, ◌≤◌, length, take};
 ghost use Rattle.designs.specs.Grids.{grid_of};
 ghost use Rattle.walks.specs.Paths.{OnPath};
 
 use crate::level::Level;
+use arrayvec::ArrayVec;
 use designs::design::Design;
 
 pub mod bounds;
@@ -12,9 +12,6 @@ pub mod walking;
 #[derive(Drop)]
 pub struct Path<A> {
     pub(crate) design: Design,
-    levels: [Level<A>; 48],
-    pub(crate) depth: u8,
-    ghost whole: { length levels ≡ 48 },
-    ghost deep: { depth ≤ 48 },
-    ghost lawful: { ∥ OnPath (grid_of design) 0 (take depth levels) ∥₁ },
+    levels: ArrayVec<Level<A>, 48>,
+    ghost lawful: { ∥ OnPath (grid_of design) 0 levels.items ∥₁ },
 }

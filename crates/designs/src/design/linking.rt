@@ -1,24 +1,17 @@
 ghost use Rattle.std.specs.Prelude.{◌≡◌, ℕ, ◌+◌, ◌<◌, ◌≤◌, true, false, replicate, IfOk, OnErr};
 ghost use Rattle.measures.specs.declared.link.Class.TheVariants.{Ordinary, Trunk};
-ghost use Rattle.designs.specs.declared.fault.DesignFault.TheVariants.{InLink};
-ghost use Rattle.designs.specs.Grids.{grid_of, is_size, no_links, sized, on_ok, link_check, in_link, after_link, with_link, either_class, cell_in, LinkAdded};
+ghost use Rattle.designs.specs.Grids.{grid_of, no_links, sized, link_check, in_link, after_link, with_link, either_class, cell_in, LinkAdded};
+ghost use Rattle.designs.specs.Results.{on_ok};
 
 use super::Design;
 use crate::cell::Cells;
 use crate::fault::{DesignFault, LinkFault};
+use crate::side::SideSize;
 use measures::link::Class;
 
 const NO_STRANDS: [u8; 576] = [0; 576];
 
 const ALL_ORDINARY: [Class; 576] = [Class::Ordinary; 576];
-
-impl From<LinkFault> for DesignFault {
-    ghost from_gives = { λ f r. r ≡ InLink f };
-
-    fn from(fault: LinkFault) -> DesignFault {
-        DesignFault::InLink(fault)
-    }
-}
 
 fn no_cells() -> Cells
     ensures strands { result.strands ≡ replicate 576 0 }
@@ -30,26 +23,19 @@ fn no_cells() -> Cells
     }
 }
 
-fn is_size(n: u8) -> bool
-    ensures { result ≡ is_size n }
-{
-    n >= 1 && n <= 24
-}
-
 fn either_class(x: Class, y: Class) -> Class
     ensures { result ≡ either_class x y }
 {
-    if x.is_trunk() | y.is_trunk() {
+    if x.is_trunk() || y.is_trunk() {
         Class::Trunk
     } else {
         Class::Ordinary
     }
 }
 
-// A design of lawful sizes without links.
-fn blank(left: u8, right: u8) -> Design
-    requires { ((1 ≤ left) × (left ≤ 24)) × ((1 ≤ right) × (right ≤ 24)) }
-    ensures { grid_of result ≡ no_links left right }
+// A design of these sizes without links.
+fn blank(left: SideSize, right: SideSize) -> Design
+    ensures { grid_of result ≡ no_links left.count right.count }
 {
     let cells = no_cells();
     Design { left, right, cells }
@@ -60,12 +46,8 @@ impl Design {
     pub fn empty(left: u8, right: u8) -> Result<Design, DesignFault>
         ensures { on_ok grid_of result ≡ sized left right }
     {
-        if !is_size(left) {
-            return Err(DesignFault::Size);
-        }
-        if !is_size(right) {
-            return Err(DesignFault::Size);
-        }
+        let left = SideSize::try_from(left)?;
+        let right = SideSize::try_from(right)?;
         Ok(blank(left, right))
     }
 
@@ -73,29 +55,30 @@ impl Design {
     fn check_link(&self, left: u8, right: u8, strands: u8, class: u8) -> Result<Class, LinkFault>
         ensures { result ≡ link_check (grid_of self.now) left right strands class }
     {
-        if left >= self.left || right >= self.right {
+        if left >= self.left.count || right >= self.right.count {
             return Err(LinkFault::UnknownSwitch);
         }
         if strands == 0 {
             return Err(LinkFault::NoStrands);
         }
-        if class > 1 {
-            return Err(LinkFault::UnknownClass);
-        }
-        let held = self.cell(left, right).strands;
-        if held > 255 - strands {
+        let class = Class::try_from(class)?;
+        if self
+            .cell(left, right)
+            .strands
+            .checked_add(strands)
+            .is_none()
+        {
             return Err(LinkFault::CellFull);
         }
-        Ok(if class == 0 {
-            Class::Ordinary
-        } else {
-            Class::Trunk
-        })
+        Ok(class)
     }
 
     // Puts a link in that may be put in.
     fn put_in(&mut self, left: u8, right: u8, strands: u8, class: Class)
-        requires { ((left < self.old.left) × (right < self.old.right)) × ((0 < strands) × ((cell_in (grid_of self.old) left right).strands + strands ≤ 255)) }
+        requires left { left < self.old.left.count }
+        requires right { right < self.old.right.count }
+        requires some { 0 < strands }
+        requires room { (cell_in (grid_of self.old) left right).strands + strands ≤ 255 }
         ensures state { grid_of self.new ≡ with_link (grid_of self.old) left right strands class }
         ensures added { LinkAdded (grid_of self.old) left right strands class (grid_of self.new) }
     {
@@ -104,7 +87,8 @@ impl Design {
         self.cells.classes[at] = either_class(self.cells.classes[at], class);
     }
 
-    // Puts a link in, and answers its class: its cell gets the strands added, and is trunk if either link is.
+    // Puts a link in, and answers its class: its cell gets the strands added, and is trunk if either link is. The class comes
+    // as a script's number, since the refusal of one that is no class lies between two others of this call.
     pub fn link(
         &mut self,
         left: u8,

@@ -1,34 +1,27 @@
-ghost use Rattle.std.specs.Prelude.{◌≡◌, ℕ, ◌-◌, ◌<◌, ◌≤◌, true, false, ◌&&◌, ◌++◌, length, replicate, if◌then◌else◌, Some, None, Decides, MatchOption};
-ghost use Rattle.designs.specs.Grids.{on_some};
-ghost use Rattle.designs.specs.Rows.{RowBytes, times, each_once, all_255, is_order, is_row, number_order};
+ghost use Rattle.std.specs.Prelude.{◌≡◌, ℕ, ◌-◌, ◌≤◌, true, false, ◌++◌, length, replicate, if◌then◌else◌, Some, None, Decides, MatchOption, ◌<◌, All};
+ghost use Rattle.std.specs.Option.{option_map};
+ghost use Rattle.designs.specs.Rows.{RowBytes, each_once, all_255, is_order, is_row, number_order};
 ghost use Rattle.designs.specs.Readings.{row_of};
 
 use super::Row;
+use crate::side::SideSize;
+
+// What stands behind the switches.
+const FILLER: u8 = 255;
 
 // Whether each number below the length is named once.
 fn names_each_once(names: &[u8]) -> bool
     requires { length names.now ≤ 24 }
     ensures { result ≡ each_once (length names.now) names.now }
 {
-    let count = names.len() as u8;
-    for k in 0..count {
-        if !names.contains(&k) {
-            return false;
-        }
-    }
-    true
+    (0..names.len() as u8).all(|k| names.contains(&k))
 }
 
 // Whether every byte is 255.
 fn is_filler(bytes: &[u8]) -> bool
     ensures { result ≡ all_255 bytes.now }
 {
-    for b in bytes {
-        if *b != 255 {
-            return false;
-        }
-    }
-    true
+    bytes.iter().all(|b| *b == FILLER)
 }
 
 // The names, filled up with 255 to 24 bytes.
@@ -36,9 +29,19 @@ fn filled(names: &[u8]) -> [u8; 24]
     requires { length names.now ≤ 24 }
     ensures { result ≡ names.now ++ replicate (24 - length names.now) 255 }
 {
-    let mut bytes = [255; 24];
-    for (k, name) in names.iter().enumerate() {
-        bytes[k] = *name;
+    let mut bytes = [FILLER; 24];
+    bytes[..names.len()].copy_from_slice(names);
+    bytes
+}
+
+// So many switches in number order, filled up with 255 to 24 bytes.
+fn numbers(count: u8) -> [u8; 24]
+    requires { count ≤ 24 }
+    ensures { result ≡ number_order count ++ replicate (24 - count) 255 }
+{
+    let mut bytes = [FILLER; 24];
+    for (k, byte) in bytes[..count as usize].iter_mut().enumerate() {
+        *byte = k as u8;
     }
     bytes
 }
@@ -46,51 +49,45 @@ fn filled(names: &[u8]) -> [u8; 24]
 impl Row {
     // The switches in their order.
     pub fn switches(&self) -> &[u8]
-        ensures { result.now ≡ row_of self.now }
+        ensures list { result.now ≡ row_of self.now }
+        ensures below { All (λ a. a < 24) result.now }
     {
-        let size = self.size as usize;
-        &self.switches[0..size]
+        &self.switches[..self.size.count as usize]
     }
 
     // Reads a row of `size` switches from 24 bytes; none where they are not an order of them and then 255s.
-    pub(crate) fn read(bytes: &[u8], size: u8) -> Option<Row>
-        requires { ((1 ≤ size) × (size ≤ 24)) × (length bytes.now ≡ 24) }
-        ensures value { MatchOption result (is_row size bytes.now ≡ false) (λ row. (is_row size bytes.now ≡ true) × (row.size ≡ size) × (row.switches ≡ bytes.now)) }
-        ensures meaning { Decides (is_row size bytes.now) (RowBytes size bytes.now) }
+    pub(crate) fn read(bytes: &[u8], size: SideSize) -> Option<Row>
+        requires { length bytes.now ≡ 24 }
+        ensures value { MatchOption result (is_row size.count bytes.now ≡ false) (λ row. (is_row size.count bytes.now ≡ true) × (row.size.count ≡ size.count) × (row.switches ≡ bytes.now)) }
+        ensures meaning { Decides (is_row size.count bytes.now) (RowBytes size.count bytes.now) }
     {
-        let count = size as usize;
-        if !names_each_once(&bytes[0..count]) {
+        let (names, rest) = bytes.split_at(size.count as usize);
+        if !names_each_once(names) || !is_filler(rest) {
             return None;
         }
-        if !is_filler(&bytes[count..]) {
-            return None;
-        }
-        let mut switches = [0; 24];
+        let mut switches = [FILLER; 24];
         switches.copy_from_slice(bytes);
         Some(Row { size, switches })
     }
 
     // The row with these names; none where they are not an order of `size` switches.
-    pub(crate) fn of(names: &[u8], size: u8) -> Option<Row>
-        requires { (1 ≤ size) × (size ≤ 24) }
-        ensures { on_some row_of result ≡ (if is_order size names.now then Some names.now else None) }
+    pub(crate) fn of(names: &[u8], size: SideSize) -> Option<Row>
+        ensures { option_map row_of result ≡ (if is_order size.count names.now then Some names.now else None) }
     {
-        if names.len() != size as usize {
+        if names.len() != size.count as usize {
             return None;
         }
         Row::read(&filled(names), size)
     }
 
     // The switches in number order.
-    pub(crate) fn in_number_order(size: u8) -> Row
-        requires { (1 ≤ size) × (size ≤ 24) }
-        ensures size { result.size ≡ size }
-        ensures switches { row_of result ≡ number_order size }
+    pub(crate) fn in_number_order(size: SideSize) -> Row
+        ensures size { result.size.count ≡ size.count }
+        ensures switches { row_of result ≡ number_order size.count }
     {
-        let mut switches = [255; 24];
-        for k in 0..size {
-            switches[k as usize] = k;
+        Row {
+            size,
+            switches: numbers(size.count),
         }
-        Row { size, switches }
     }
 }

@@ -1,24 +1,15 @@
-ghost use Rattle.std.specs.Prelude.{◌≡◌, ℕ, ◌+◌, ◌<◌, ◌≤◌, [], ◌∷◌, ◌++◌, length, take, slice_index, All};
-ghost use Rattle.designs.specs.Grids.{grid_of, on_some};
+ghost use Rattle.std.specs.Prelude.{◌≡◌, ℕ, ◌<◌, ◌≤◌, length, All};
+ghost use Rattle.std.specs.Option.{option_map};
+ghost use Rattle.designs.specs.Grids.{grid_of};
 ghost use Rattle.designs.specs.Readings.{rows_of, rows_named};
 ghost use Rattle.partials.specs.Nodes.{partial_of};
-ghost use Rattle.partials.specs.Partials.{nothing_placed};
-ghost use Rattle.partials.specs.Tree.{put_at};
+ghost use Rattle.partials.specs.Names.{names_of};
+ghost use Rattle.partials.specs.Partials.{nothing_placed, unplaced};
 
 use super::Node;
+use crate::names::Names;
 use designs::design::Design;
 use designs::drawing::Drawing;
-
-// The first switches of an array.
-fn front(row: &[u8; 24], count: u8) -> &[u8]
-    requires { (count ≤ 24) × (((k : ℕ) → slice_index row.now k < 24)) }
-    ensures list { result.now ≡ take count row.now }
-    ensures below { All (λ a. a < 24) result.now }
-    ensures few { length result.now ≤ 24 }
-{
-    let count = count as usize;
-    &row[0..count]
-}
 
 impl Node {
     // Nothing placed.
@@ -26,10 +17,8 @@ impl Node {
         ensures { partial_of result ≡ nothing_placed }
     {
         Node {
-            left: [0; 24],
-            placed: 0,
-            right: [0; 24],
-            begun: 0,
+            left: Names::new(),
+            right: Names::new(),
         }
     }
 
@@ -39,7 +28,7 @@ impl Node {
         ensures below { All (λ a. a < 24) result.now }
         ensures few { length result.now ≤ 24 }
     {
-        front(&self.left, self.placed)
+        self.left.as_slice()
     }
 
     // The beginning of the right row.
@@ -48,12 +37,26 @@ impl Node {
         ensures below { All (λ v. v < 24) result.now }
         ensures few { length result.now ≤ 24 }
     {
-        front(&self.right, self.begun)
+        self.right.as_slice()
+    }
+
+    // The right switches that are not in the prefix, lowest number first. They are added to fixed memory, so nothing can
+    // collect them.
+    pub fn unplaced(&self, design: &Design) -> Names<24>
+        ensures { names_of result ≡ unplaced (grid_of design.now) (partial_of self.now) }
+    {
+        let mut free = Names::new();
+        for v in 0..design.right_size() {
+            if !self.prefix().contains(&v) {
+                free.push(v);
+            }
+        }
+        free
     }
 
     // The drawing, if it is a whole one of the design.
     pub fn drawing(&self, design: &Design) -> Option<Drawing>
-        ensures { on_some rows_of result ≡ rows_named (grid_of design.now) (partial_of self.now).placed (partial_of self.now).prefix }
+        ensures { option_map rows_of result ≡ rows_named (grid_of design.now) (partial_of self.now).placed (partial_of self.now).prefix }
     {
         Drawing::of(design, self.left(), self.prefix())
     }

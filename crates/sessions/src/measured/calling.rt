@@ -1,4 +1,4 @@
-ghost use Rattle.std.specs.Prelude.{◌≡◌, ℕ, ◌<◌, ◌≤◌, length, OnErr};
+ghost use Rattle.std.specs.Prelude.{◌≡◌, length, OnErr};
 ghost use Rattle.sessions.specs.Calls.{called};
 ghost use Rattle.scripts.specs.Scripts.{read_command, next_byte};
 ghost use Rattle.sessions.specs.Stages.{stage_of, set};
@@ -8,7 +8,7 @@ use super::{Condition, MeasuredSession};
 use crate::telling::{LineReply, Reply};
 use crate::writing::write_answer;
 use measures::measure::{Measure, PrintingMeasure};
-use scripts::command::{next_after, read_command};
+use scripts::command::{Command, next_after, read_command};
 
 impl<M: Measure, R: Drop> MeasuredSession<M, R> {
     // A session with this rule, as an accepted M leaves it.
@@ -35,10 +35,8 @@ impl<M: Measure, R: Drop> MeasuredSession<M, R> {
                 told: Err(fault),
                 next: next_after(fault, place, script.len()),
             },
-            Ok(command) => {
-                let start = command.place + 1;
-                let next = command.next;
-                let told = self.carry_out(command.letter, command.place, &script[start..next]);
+            Ok(Command { letter, next, .. }) => {
+                let told = self.carry_out(letter, place, &script[place + 1..next]);
                 Reply { told, next }
             }
         }
@@ -48,20 +46,16 @@ impl<M: Measure, R: Drop> MeasuredSession<M, R> {
 impl<P: PrintingMeasure, R: Drop> MeasuredSession<P, R> {
     // The same, written into the lent line.
     pub fn call_on_line(&mut self, script: &[u8], place: usize, line: &mut [u8]) -> LineReply<P>
-        ensures told { result.told ≡ (called P.Amount.Amount.kind P.Measure.priced (stage_of self.old.condition) script.now place (length line.old)).told }
-        ensures next { result.next ≡ next_byte script.now place (read_command script.now place (length line.old)) }
-        ensures wrote { result.wrote ≡ length (if_room (length line.old) (answer_line P.PrintingMeasure.written result.told)) }
-        ensures bytes { line.new ≡ written_on line.old (if_room (length line.old) (answer_line P.PrintingMeasure.written result.told)) }
+        ensures told { result.reply.told ≡ (called P.Amount.Amount.kind P.Measure.priced (stage_of self.old.condition) script.now place (length line.old)).told }
+        ensures next { result.reply.next ≡ next_byte script.now place (read_command script.now place (length line.old)) }
+        ensures wrote { result.wrote ≡ length (if_room (length line.old) (answer_line P.PrintingMeasure.written result.reply.told)) }
+        ensures bytes { line.new ≡ written_on line.old (if_room (length line.old) (answer_line P.PrintingMeasure.written result.reply.told)) }
         ensures stage { stage_of self.new.condition ≡ (called {M = P} P.Amount.Amount.kind P.Measure.priced (stage_of self.old.condition) script.now place (length line.old)).stage }
-        ensures refused { OnErr result.told (self.new ≡ self.old) }
+        ensures refused { OnErr result.reply.told (self.new ≡ self.old) }
         ensures rule { self.new.rule ≡ self.old.rule }
     {
         let reply = self.call(script, place, line.len());
         let wrote = write_answer::<P>(line, &reply.told);
-        LineReply {
-            told: reply.told,
-            next: reply.next,
-            wrote,
-        }
+        LineReply { reply, wrote }
     }
 }

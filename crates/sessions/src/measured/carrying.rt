@@ -1,8 +1,6 @@
-ghost use Rattle.std.specs.Prelude.{◌≡◌, ℕ, length, Some, OnErr};
-ghost use Rattle.designs.specs.Grids.{grid_of, on_ok};
-ghost use Rattle.designs.specs.Readings.{rows_of, read_rows};
+ghost use Rattle.std.specs.Prelude.{◌≡◌, length, Some, OnErr};
 ghost use Rattle.scripts.specs.Scripts.{width_of};
-ghost use Rattle.sessions.specs.Stages.{stage_of, carried, in_search};
+ghost use Rattle.sessions.specs.Stages.{stage_of, carried};
 
 use super::{Condition, MeasuredSession};
 use crate::search::Search;
@@ -12,15 +10,6 @@ use designs::drawing::Drawing;
 use measures::link::Link;
 use measures::measure::Measure;
 use scripts::fault::{ScriptFault, SearchFault, at_place};
-
-// Reads an offered drawing.
-fn read_offer(design: &Design, operands: &[u8]) -> Result<Drawing, SearchFault>
-    requires { length operands.now ≡ 48 }
-    ensures { on_ok rows_of result ≡ in_search (read_rows (grid_of design.now) operands.now) }
-{
-    let drawing = Drawing::read(design, operands)?;
-    Ok(drawing)
-}
 
 impl<M: Measure, R: Drop> MeasuredSession<M, R> {
     // Carries out a command that has all its operands.
@@ -51,19 +40,17 @@ impl<M: Measure, R: Drop> MeasuredSession<M, R> {
                 Ok(Telling::Linked { left, right, link })
             }
             (Condition::Filling(design), 'C') => {
-                let closed = *design;
-                self.condition = Condition::Searching(Search::start(closed));
+                self.condition = Condition::Searching(Search::start(*design));
                 Ok(Telling::Closed)
             }
             (Condition::Searching(search), 'O') => {
-                let drawing = at_place(read_offer(&search.design, operands), place)?;
+                let read = Drawing::read(&search.design, operands).map_err(SearchFault::from);
+                let drawing = at_place(read, place)?;
                 let cost = search.design.cost::<M>(&drawing);
                 let taken = search.offer(drawing, cost);
                 Ok(Telling::Offered { taken, cost })
             }
-            (Condition::Set, _) => Err(ScriptFault::WrongCondition { place }),
-            (Condition::Filling(_), _) => Err(ScriptFault::WrongCondition { place }),
-            (Condition::Searching(_), _) => Err(ScriptFault::WrongCondition { place }),
+            _ => Err(ScriptFault::WrongCondition { place }),
         }
     }
 }

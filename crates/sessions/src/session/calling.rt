@@ -1,44 +1,31 @@
-ghost use Rattle.std.specs.Prelude.{◌≡◌, ℕ, ◌+◌, ◌<◌, ◌≤◌, length, Some, OnSome};
-ghost use Rattle.designs.specs.Grids.{on_ok};
-ghost use Rattle.sessions.specs.Calls.{called};
+ghost use Rattle.std.specs.Prelude.{◌≡◌, ◌<◌, ◌≤◌, length, Some, OnSome};
+ghost use Rattle.designs.specs.Results.{on_ok};
 ghost use Rattle.scripts.specs.Scripts.{read_command, next_byte};
-ghost use Rattle.sessions.specs.Sessions.{whole_of, rule_numbered, set_up, placed_set_up, outcome, fault_in};
-ghost use Rattle.sessions.specs.Stages.{stage_of};
-ghost use Rattle.sessions.specs.Texts.{answer_line, if_room, refusal_line, written_on};
+ghost use Rattle.sessions.specs.Sessions.{whole_of, set_up, placed_set_up, outcome};
+ghost use Rattle.sessions.specs.Texts.{if_room, refusal_line, written_on};
 
 use super::{Answer, Session};
 use crate::measured::MeasuredSession;
 use crate::rule::Rule;
-use crate::telling::Telling;
 use crate::writing::write_refusal;
-use measures::measure::{Measure, PrintingMeasure};
+use measures::measure::Measure;
 use measures::strands::ByStrands;
 use measures::trunks::ByTrunks;
-use scripts::command::{next_after, read_command};
+use scripts::command::{Command, next_after, read_command};
 use scripts::fault::{ScriptFault, SetupFault, at_place};
 
-// The rule with this number.
-fn rule_numbered(number: u8) -> Result<Rule, SetupFault>
-    ensures { result ≡ rule_numbered number }
-{
-    match number {
-        1 => Ok(Rule::Settled),
-        2 => Ok(Rule::Lesser),
-        _ => Err(SetupFault::UnknownRule),
-    }
-}
-
-// The session that an M with these two numbers leaves.
+// The session that an M with these two numbers leaves. Its two arms differ in a type that no number can choose otherwise,
+// and the measure is refused before the rule is looked at.
 fn set_up(measure: u8, rule: u8) -> Result<Session, SetupFault>
     ensures { on_ok whole_of result ≡ set_up measure rule }
 {
     match measure {
         ByStrands::NUMBER => {
-            let rule = rule_numbered(rule)?;
+            let rule = Rule::try_from(rule)?;
             Ok(Session::ByStrands(MeasuredSession::new(rule)))
         }
         ByTrunks::NUMBER => {
-            let rule = rule_numbered(rule)?;
+            let rule = Rule::try_from(rule)?;
             Ok(Session::ByTrunks(MeasuredSession::new(rule)))
         }
         _ => Err(SetupFault::UnknownMeasure),
@@ -49,12 +36,12 @@ fn set_up(measure: u8, rule: u8) -> Result<Session, SetupFault>
 fn set_up_at(measure: u8, rule: u8, place: usize) -> Result<Session, ScriptFault>
     ensures { on_ok whole_of result ≡ placed_set_up place (set_up measure rule) }
 {
-    let session = at_place(set_up(measure, rule), place)?;
-    Ok(session)
+    Ok(at_place(set_up(measure, rule), place)?)
 }
 
 fn refuse(line: &mut [u8], fault: ScriptFault, next: usize) -> Answer
-    ensures answer { (result.refused ≡ Some fault) × (result.next ≡ next) }
+    ensures refused { result.refused ≡ Some fault }
+    ensures next { result.next ≡ next }
     ensures wrote { result.wrote ≡ length (if_room (length line.old) (refusal_line fault)) }
     ensures bytes { line.new ≡ written_on line.old (if_room (length line.old) (refusal_line fault)) }
 {
@@ -66,39 +53,6 @@ fn refuse(line: &mut [u8], fault: ScriptFault, next: usize) -> Answer
     }
 }
 
-// Why a call was refused, if it was.
-fn fault_of<M: Measure>(told: Result<Telling<M>, ScriptFault>) -> Option<ScriptFault>
-    ensures { result ≡ fault_in told }
-{
-    match told {
-        Ok(_) => None,
-        Err(fault) => Some(fault),
-    }
-}
-
-// A call of a session that has a measure.
-fn measured_call<P: PrintingMeasure>(
-    session: &mut MeasuredSession<P, Rule>,
-    script: &[u8],
-    place: usize,
-    line: &mut [u8],
-) -> Answer
-    ensures refused { result.refused ≡ fault_in (called {M = P} P.Amount.Amount.kind P.Measure.priced (stage_of session.old.condition) script.now place (length line.old)).told }
-    ensures next { result.next ≡ next_byte script.now place (read_command script.now place (length line.old)) }
-    ensures wrote { result.wrote ≡ length (if_room (length line.old) (answer_line P.PrintingMeasure.written (called {M = P} P.Amount.Amount.kind P.Measure.priced (stage_of session.old.condition) script.now place (length line.old)).told)) }
-    ensures bytes { line.new ≡ written_on line.old (if_room (length line.old) (answer_line P.PrintingMeasure.written (called {M = P} P.Amount.Amount.kind P.Measure.priced (stage_of session.old.condition) script.now place (length line.old)).told)) }
-    ensures stage { stage_of session.new.condition ≡ (called {M = P} P.Amount.Amount.kind P.Measure.priced (stage_of session.old.condition) script.now place (length line.old)).stage }
-    ensures kept { OnSome result.refused (session.new ≡ session.old) }
-    ensures rule { session.new.rule ≡ session.old.rule }
-{
-    let reply = session.call_on_line(script, place, line);
-    Answer {
-        refused: fault_of(reply.told),
-        next: reply.next,
-        wrote: reply.wrote,
-    }
-}
-
 impl Session {
     // A session that no command has reached yet.
     pub fn new() -> Session
@@ -107,7 +61,8 @@ impl Session {
         Session::Fresh
     }
 
-    // Carries out the command at a byte of the script, and writes to the lent line.
+    // Carries out the command at a byte of the script, and writes to the lent line. Script, place and line stay three
+    // parameters: each call brings another place, and a struct of the three would be taken apart at once.
     pub fn call(&mut self, script: &[u8], place: usize, line: &mut [u8]) -> Answer
         ensures refused { result.refused ≡ (outcome (whole_of self.old) script.now place (length line.old)).refused }
         ensures next { result.next ≡ next_byte script.now place (read_command script.now place (length line.old)) }
@@ -117,29 +72,26 @@ impl Session {
         ensures kept { OnSome result.refused (self.new ≡ self.old) }
         ensures forward { place < length script.now → 256 ≤ length line.old → place < result.next }
     {
-        let command = match read_command(script, place, line.len()) {
+        // A refusal is an answer with a line of its own, so no `?` hands it on.
+        let Command { letter, next, .. } = match read_command(script, place, line.len()) {
             Ok(command) => command,
             Err(fault) => return refuse(line, fault, next_after(fault, place, script.len())),
         };
-        match (&mut *self, command.letter) {
+        match (&mut *self, letter) {
             (Session::Fresh, 'M') => match set_up_at(script[place + 1], script[place + 2], place) {
                 Ok(session) => {
                     *self = session;
                     Answer {
                         refused: None,
-                        next: command.next,
+                        next,
                         wrote: 0,
                     }
                 }
-                Err(fault) => refuse(line, fault, command.next),
+                Err(fault) => refuse(line, fault, next),
             },
-            (Session::Fresh, _) => refuse(
-                line,
-                ScriptFault::WrongCondition { place },
-                command.next,
-            ),
-            (Session::ByStrands(session), _) => measured_call(session, script, place, line),
-            (Session::ByTrunks(session), _) => measured_call(session, script, place, line),
+            (Session::Fresh, _) => refuse(line, ScriptFault::WrongCondition { place }, next),
+            (Session::ByStrands(session), _) => session.call_on_line(script, place, line).into(),
+            (Session::ByTrunks(session), _) => session.call_on_line(script, place, line).into(),
         }
     }
 }

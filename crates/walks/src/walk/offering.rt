@@ -1,5 +1,8 @@
+ghost use Rattle.std.specs.Prelude.{◌≡◌, not};
 ghost use Rattle.designs.specs.Readings.{rows_of};
 ghost use Rattle.walks.specs.Moves.{Weighed};
+ghost use Rattle.walks.specs.Searches.{GoesTo, walk_of, cost_in};
+ghost use Rattle.walks.specs.Walk.{offer};
 
 use super::Search;
 use crate::offered::Offered;
@@ -8,17 +11,25 @@ use measures::amount::Amount;
 use measures::measure::Measure;
 
 impl<M: Measure> Search<M> {
-    // Takes a drawing if it costs less than the best, and what is true of it.
-    fn weigh(&mut self, drawing: Drawing) -> Offered<M::Amount>
-        ensures weighed { Weighed M.Amount.Amount.kind M.Measure.priced (rows_of drawing) self.old self.new result }
+    // Takes a drawing if it costs less than the best. What offer promises beyond this is proved by hand.
+    pub(super) fn take_better(&mut self, drawing: Drawing) -> Offered<M::Amount>
+        ensures goes { GoesTo self.old self.new (offer M.Amount.Amount.kind (cost_in self.old) (rows_of drawing) (walk_of self.old)) }
+        ensures cost { result.cost ≡ cost_in self.old (rows_of drawing) }
+        ensures taken { result.taken ≡ not (M.Amount.Amount.kind.at_most self.old.least result.cost) }
     {
-        self.take_better(drawing)
+        let cost = self.path.design.cost::<M>(&drawing);
+        if self.least.is_at_most(cost) {
+            return Offered { taken: false, cost };
+        }
+        self.incumbent = drawing;
+        self.least = cost;
+        Offered { taken: true, cost }
     }
 
     // An offered drawing becomes the best if it costs less.
     pub fn offer(&mut self, drawing: Drawing) -> Offered<M::Amount>
-        ensures weighed { Weighed M.Amount.Amount.kind M.Measure.priced (rows_of drawing) self.old self.new result }
+        ensures weighed { Weighed (rows_of drawing) self.old self.new result }
     {
-        self.weigh(drawing)
+        self.take_better(drawing)
     }
 }

@@ -1,4 +1,4 @@
-ghost use Rattle.std.specs.Prelude.{◌≡◌, ℕ};
+ghost use Rattle.std.specs.Prelude.{◌≡◌};
 ghost use Rattle.walks.specs.Reports.{Reports, AlwaysTrue};
 ghost use Rattle.walks.specs.Searches.{walk_of, grid_in};
 ghost use Rattle.walks.specs.Walk.{lower_bound, is_done};
@@ -32,11 +32,12 @@ impl<M: Measure> Search<M> {
         self.least.is_at_most(self.floor())
     }
 
-    fn report_with(&self, floor: M::Amount) -> Report<M::Amount>
-        requires { floor ≡ lower_bound M.Amount.Amount.kind (walk_of self.now) }
+    // What is known so far.
+    pub fn report(&self) -> Report<M::Amount>
         ensures values { Reports M.Amount.Amount.kind (grid_in self.now) (walk_of self.now) result }
-        ensures truth { AlwaysTrue M.Amount.Amount.kind M.Measure.priced self.now result }
+        ensures truth { AlwaysTrue self.now result }
     {
+        let floor = self.floor();
         Report {
             done: self.least.is_at_most(floor),
             opened: self.opened,
@@ -45,13 +46,5 @@ impl<M: Measure> Search<M> {
             size: tree_size(&self.path.design),
             drawing: self.incumbent,
         }
-    }
-
-    // What is known so far.
-    pub fn report(&self) -> Report<M::Amount>
-        ensures values { Reports M.Amount.Amount.kind (grid_in self.now) (walk_of self.now) result }
-        ensures truth { AlwaysTrue M.Amount.Amount.kind M.Measure.priced self.now result }
-    {
-        self.report_with(self.floor())
     }
 }

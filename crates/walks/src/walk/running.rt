@@ -1,9 +1,8 @@
-ghost use Rattle.std.specs.Prelude.{◌≡◌, ℕ, ◌+◌, ◌≤◌, IfOk, OnErr};
-ghost use Rattle.designs.specs.Grids.{on_ok};
-ghost use Rattle.designs.specs.Readings.{cost_of};
+ghost use Rattle.std.specs.Prelude.{◌≡◌, ◌+◌, ◌≤◌, IfOk, OnErr};
+ghost use Rattle.designs.specs.Results.{on_ok};
 ghost use Rattle.walks.specs.Moves.{Ran};
 ghost use Rattle.walks.specs.Runs.{run_check};
-ghost use Rattle.walks.specs.Searches.{walk_of, grid_in};
+ghost use Rattle.walks.specs.Searches.{GoesTo, walk_of, grid_in, cost_in};
 ghost use Rattle.walks.specs.Walk.{run};
 
 use super::Search;
@@ -18,12 +17,11 @@ const MOST_ASKED: u32 = 1_000_000;
 const MOST_OPENED: u32 = 1_000_000_000;
 
 impl<M: Measure> Search<M> {
-    // Opens up to so many nodes, until the walk is done; answers how many.
+    // The opening of a run, once its limits are kept. What run promises beyond this is proved by hand.
     fn run_for<R: BoundingRule<M>>(&mut self, rule: &R, nodes: u32) -> u32
         requires { self.old.opened + nodes ≤ 1000000000 }
-        ensures walk { walk_of self.new ≡ run M.Amount.Amount.kind (grid_in self.old) (cost_of M.Amount.Amount.kind M.Measure.priced (grid_in self.old)) (R.BoundingRule.answered rule.now (grid_in self.old)) nodes (walk_of self.old) }
+        ensures goes { GoesTo self.old self.new (run M.Amount.Amount.kind (grid_in self.old) (cost_in self.old) (R.BoundingRule.answered rule.now (grid_in self.old)) nodes (walk_of self.old)) }
         ensures opened { self.old.opened + result ≡ self.new.opened }
-        ensures design { self.new.path.design ≡ self.old.path.design }
     {
         let mut opened = 0;
         let opened = 'stepping: loop {
@@ -39,20 +37,12 @@ impl<M: Measure> Search<M> {
         opened
     }
 
-    // The same, and what is true of it.
-    fn run_on<R: BoundingRule<M>>(&mut self, rule: &R, nodes: u32) -> u32
-        requires { self.old.opened + nodes ≤ 1000000000 }
-        ensures ran { Ran M.Amount.Amount.kind M.Measure.priced (R.BoundingRule.answered rule.now) nodes self.old self.new result }
-    {
-        self.run_for(rule, nodes)
-    }
-
     // Opens up to so many nodes, until the walk is done; answers how many. Refused for 0 or more than 1,000,000 nodes,
     // or if they would make more than 1,000,000,000 with those opened before.
     pub fn run<R: BoundingRule<M>>(&mut self, rule: &R, nodes: u32) -> Result<u32, RunFault>
         ensures check { on_ok (λ _. nodes) result ≡ run_check self.old.opened nodes }
         ensures refused { OnErr result (self.new ≡ self.old) }
-        ensures ran { IfOk result (λ n. Ran M.Amount.Amount.kind M.Measure.priced (R.BoundingRule.answered rule.now) nodes self.old self.new n) }
+        ensures ran { IfOk result (λ n. Ran (R.BoundingRule.answered rule.now) nodes self.old self.new n) }
     {
         if nodes == 0 || nodes > MOST_ASKED {
             return Err(RunFault::Nodes);
@@ -60,6 +50,6 @@ impl<M: Measure> Search<M> {
         if nodes > MOST_OPENED - self.opened {
             return Err(RunFault::Total);
         }
-        Ok(self.run_on(rule, nodes))
+        Ok(self.run_for(rule, nodes))
     }
 }

@@ -10,7 +10,7 @@ invariant_of-result c =
     let t = c.no_cells-cells.ensures.classes in
     let none : (k : ℕ) → get_or c.no_cells-cells.result.strands k 0 ≡ 0 = λ k. ap (λ l. get_or l k 0) s ∙ get_or_same 0 576 k in
     let plain : (k : ℕ) → get_or c.no_cells-cells.result.classes k Ordinary ≡ Ordinary = λ k. ap (λ l. get_or l k Ordinary) t ∙ get_or_same Ordinary 576 k in
-    record { lefts = c.requires.0; rights = c.requires.1; whole = (ap length s, ap length t); bytes = (λ k. omega (arith, none k)); quiet = (λ k e. ap is_trunk (plain k)) }
+    record { whole = (ap length s, ap length t); bytes = (λ k. omega (arith, none k)); quiet = (λ k e. ap is_trunk (plain k)) }
 
 pub returns : goal.returns
-returns c = is_blank c.args.left c.args.right c.no_cells-cells.result c.no_cells-cells.ensures.strands c.no_cells-cells.ensures.classes
+returns c = is_blank c.args.left.count c.args.right.count c.no_cells-cells.result c.no_cells-cells.ensures.strands c.no_cells-cells.ensures.classes

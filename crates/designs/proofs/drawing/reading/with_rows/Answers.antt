@@ -1,5 +1,5 @@
 use Rattle.std.proofs.Common.{◌≡◌, ℕ, Bool, true, false, cond, ◌&&◌, List, Some, None, Option, refl, ap, ◌∙◌}
-use Rattle.designs.specs.Grids.{on_some}
+use Rattle.std.specs.Option.{option_map}
 use Rattle.designs.specs.Readings.{TwoRows, rows_of}
 use Rattle.designs.specs.Rows.{is_order}
 use Rattle.designs.proofs.Names.{decides_order}
@@ -31,10 +31,10 @@ pub returns-in_err-left : goal.returns-in_err-left
 returns-in_err-left c =
     let xs = c.args.left.now in
     let ys = c.args.right.now in
-    let n = c.args.lefts in
-    let m = c.args.rights in
+    let n = c.args.lefts.count in
+    let m = c.args.rights.count in
     record {
-      value = ap (on_some rows_of) c.from_residual.ensures ∙ no_left (is_order n xs) (is_order m ys) xs ys c.in_err-left.ensures;
+      value = ap (option_map rows_of) c.from_residual.ensures ∙ no_left (is_order n xs) (is_order m ys) xs ys c.in_err-left.ensures;
       meaning = (decides_order n xs, decides_order m ys);
     }
 
@@ -42,10 +42,10 @@ pub returns-in_err-right : goal.returns-in_err-right
 returns-in_err-right c =
     let xs = c.args.left.now in
     let ys = c.args.right.now in
-    let n = c.args.lefts in
-    let m = c.args.rights in
+    let n = c.args.lefts.count in
+    let m = c.args.rights.count in
     record {
-      value = ap (on_some rows_of) c.from_residual-in_err-right.ensures ∙ no_right (is_order n xs) (is_order m ys) xs ys c.in_err-right.ensures;
+      value = ap (option_map rows_of) c.from_residual-in_err-right.ensures ∙ no_right (is_order n xs) (is_order m ys) xs ys c.in_err-right.ensures;
       meaning = (decides_order n xs, decides_order m ys);
     }
 
@@ -53,8 +53,8 @@ pub returns : goal.returns
 returns c =
     let xs = c.args.left.now in
     let ys = c.args.right.now in
-    let n = c.args.lefts in
-    let m = c.args.rights in
+    let n = c.args.lefts.count in
+    let m = c.args.rights.count in
     record {
       value = both (is_order n xs) (is_order m ys) xs ys _ _ c.in_ok-left.ensures c.in_ok-right.ensures;
       meaning = (decides_order n xs, decides_order m ys);

@@ -1,21 +1,20 @@
-use Rattle.std.proofs.Common.{Some, sym, ap, ◌∙◌, arith}
+use Rattle.std.proofs.Common.{rules, ap, length, ◌<◌, ◌≤◌, arith}
 use Rattle.partials.specs.Nodes.{partial_of}
-use Rattle.partials.specs.Tree.{placings, nth}
-use Rattle.partials.proofs.Fronts.{placed-length}
 use Rattle.partials.proofs.Nth.{nth_placing, no_placing}
 use Rattle.partials.proofs.node.Node.with_left.Goals as goal
 
-pub returns-then-at-self : goal.returns-then-at-self
-returns-then-at-self c =
-    let n = c.args.self.now in
-    let xs = (partial_of n).placed in
-    record { child = sym (ap (λ k. nth (placings k k xs) c.args.at) (placed-length n) ∙ no_placing n.placed c.args.at n.placed xs c.if-at-self.true); few = tt }
+pub returns-in_err-place-clause-child : goal.returns-in_err-place-clause-child
+returns-in_err-place-clause-child c =
+    let xs = (partial_of c.args.self.now).placed in
+    let same = ap length c.left.ensures.list in
+    let late : length xs < c.args.at = omega arith in
+    let none = no_placing (length xs) c.args.at (length xs) xs late in
+    search rules
 
-pub returns : goal.returns
-returns c =
-    let n = c.args.self.now in
-    let xs = (partial_of n).placed in
-    record {
-      child = ap Some c.put.ensures ∙ sym (ap (λ k. nth (placings k k xs) c.args.at) (placed-length n) ∙ nth_placing n.placed c.args.at n.placed xs c.if-at-self.false);
-      few = omega (arith, c.if-at-self.false, c.requires);
-    }
+pub returns-clause-child : goal.returns-clause-child
+returns-clause-child c =
+    let xs = (partial_of c.args.self.now).placed in
+    let same = ap length c.left.ensures.list in
+    let early : c.args.at ≤ length xs = omega arith in
+    let some = nth_placing (length xs) c.args.at (length xs) xs early in
+    search rules

@@ -1,39 +1,50 @@
-use Rattle.std.proofs.Common.{◌-◌, get_or, sym, ◌∙◌, arith, length-set}
-use Rattle.std.proofs.lemmas.List.{get_or_default}
+use Rattle.std.proofs.Common.{◌-◌, [], ◌∷◌, ◌++◌, length, take, sym, ap, ◌∙◌}
+use Rattle.arrayvec.specs.ArrayVec.{array_vec_len}
 use Rattle.designs.specs.Grids.{grid_of}
 use Rattle.partials.specs.Nodes.{partial_of}
-use Rattle.walks.proofs.OnPaths.{back_frontier, back_lawful, taken_lawful, taken_deep, taken_frontier}
+use Rattle.walks.proofs.OnPaths.{with_last, written_last, taken_more, lawful_above, back_frontier, taken_lawful, taken_deep, taken_frontier}
 use Rattle.walks.proofs.path.Path.next.Goals as goal
+
+pub loop-level-preserved : goal.loop-level-preserved
+loop-level-preserved g c =
+    let v = c.loop-level.levels in
+    let xs = c.deref_mut.result.now in
+    let x = c.in-Some.level.now in
+    let is = c.deref_mut.ensures.value in
+    let item = c.in-Some.ensures.item in
+    let d = c.args.self.now.design in
+    let last = with_last v xs is item.3.0 x item.1 in
+    let above = c.pop.ensures.rest ∙ ap (λ ys. take (length ys - 1) ys) (written_last v xs is item.3.0 x ∙ sym last) in
+    let e = last ∙ ap (λ up. up ++ (x ∷ [])) (sym above) in
+    record {
+      lawful = lawful_above (grid_of d) v.items c.pop.new.self.items x e c.loop-level.invariant.lawful;
+      same = back_frontier (grid_of d) v.items c.pop.new.self.items x e c.in_default-child.ensures.child ∙ c.loop-level.invariant.same;
+    }
 
 pub invariant_of-self : goal.invariant_of-self
 invariant_of-self g c =
-    let s = c.loop-self.self in
-    let x = get_or s.levels (s.depth - 1) c.index-self-at.result in
-    let is = get_or_default s.levels (s.depth - 1) c.index-self-at.result x (omega (arith, s.whole, s.deep, c.loop-self-test.true)) in record { whole = s.whole; deep = omega (arith, s.deep); lawful = back_lawful (grid_of s.design) s.levels s.depth c.loop-self-test.true (omega (arith, s.whole, s.deep)) x is s.lawful }
+    let v = c.loop-level.levels in
+    let xs = c.deref_mut.result.now in
+    let x = c.in-Some.level.now in
+    let is = c.deref_mut.ensures.value in
+    let item = c.in-Some.ensures.item in
+    record { lawful = taken_lawful (grid_of c.args.self.now.design) v.items _ (take (array_vec_len v - 1) v.items) x (with_last v xs is item.3.0 x item.1) (written_last v xs is item.3.0 (taken_more x)) c.loop-level.invariant.lawful }
 
-pub loop-self-preserved : goal.loop-self-preserved
-loop-self-preserved g c =
-    let s = c.loop-self.self in
-    let x = get_or s.levels (s.depth - 1) c.index-self-at.result in
-    let is = get_or_default s.levels (s.depth - 1) c.index-self-at.result x (omega (arith, s.whole, s.deep, c.loop-self-test.true)) in (
-      back_frontier (grid_of s.design) s.levels s.depth c.loop-self-test.true (omega (arith, s.whole, s.deep)) x is c.in_default.ensures.child ∙ c.loop-self.invariant.0,
-      c.loop-self.invariant.1,
-    )
+pub returns-in-Some-clause-taken : goal.returns-in-Some-clause-taken
+returns-in-Some-clause-taken g c =
+    let v = c.loop-level.levels in
+    let xs = c.deref_mut.result.now in
+    let x = c.in-Some.level.now in
+    let is = c.deref_mut.ensures.value in
+    let item = c.in-Some.ensures.item in
+    sym c.loop-level.invariant.same
+    ∙ taken_frontier (grid_of c.args.self.now.design) v.items _ (take (array_vec_len v - 1) v.items) x (with_last v xs is item.3.0 x item.1) (written_last v xs is item.3.0 (taken_more x)) (partial_of c.in-Some-child.node) c.in-Some-child.ensures.child
 
-pub invariant_of-self-in-loop-self : goal.invariant_of-self-in-loop-self
-invariant_of-self-in-loop-self g c =
-    let s = c.loop-self.self in
-    let x = get_or s.levels (s.depth - 1) c.index-self-at.result in
-    let is = get_or_default s.levels (s.depth - 1) c.index-self-at.result x (omega (arith, s.whole, s.deep, c.loop-self-test.true)) in record { whole = length-set s.levels (s.depth - 1) _ ∙ s.whole; deep = s.deep; lawful = taken_lawful (grid_of s.design) s.levels s.depth c.loop-self-test.true (omega (arith, s.whole, s.deep)) x is s.lawful }
-
-pub returns-in-loop-self : goal.returns-in-loop-self
-returns-in-loop-self g c =
-    let s = c.loop-self.self in
-    let x = get_or s.levels (s.depth - 1) c.index-self-at.result in
-    let is = get_or_default s.levels (s.depth - 1) c.index-self-at.result x (omega (arith, s.whole, s.deep, c.loop-self-test.true)) in
-    let child = c.in-Some.ensures.child in
-    record {
-      taken = sym c.loop-self.invariant.0 ∙ taken_frontier (grid_of s.design) s.levels s.depth c.loop-self-test.true (omega (arith, s.whole, s.deep)) x is (partial_of c.in-Some.node) child;
-      deep = taken_deep (grid_of s.design) s.levels s.depth c.loop-self-test.true (omega (arith, s.whole, s.deep)) x is (partial_of c.in-Some.node) child s.lawful;
-      design = c.loop-self.invariant.1;
-    }
+pub returns-in-Some-clause-deep : goal.returns-in-Some-clause-deep
+returns-in-Some-clause-deep g c =
+    let v = c.loop-level.levels in
+    let xs = c.deref_mut.result.now in
+    let x = c.in-Some.level.now in
+    let is = c.deref_mut.ensures.value in
+    let item = c.in-Some.ensures.item in
+    taken_deep (grid_of c.args.self.now.design) v.items _ (take (array_vec_len v - 1) v.items) x (with_last v xs is item.3.0 x item.1) (written_last v xs is item.3.0 (taken_more x)) (partial_of c.in-Some-child.node) c.in-Some-child.ensures.child c.loop-level.invariant.lawful

@@ -1,0 +1,253 @@
+use crate::plain::{PlainLink, Price, Rows, Seed, all_rows, design, first_rows, order, size_of};
+use crate::seen::{Key, Keyed, Seen, see};
+use designs::design::Design;
+use designs::drawing::Drawing;
+use measures::strands::ByStrands;
+use measures::trunks::ByTrunks;
+use partials::delivered::Rule;
+use std::alloc::{AllocError, Global};
+use std::process::Abort;
+use std::test::*;
+use walks::offered::Offered;
+use walks::walk::Search;
+
+// What the trials met, so that none of it is left out: walks done at once, done with fewer nodes than there are,
+// done with more than 20, and ended with a better drawing; reports with a floor between zero and the best; offers.
+#[derive(Default, Drop)]
+struct Met {
+    at_once: u32,
+    pruned: u32,
+    long: u32,
+    improved: u32,
+    inside: u32,
+    taken: u32,
+    kept: u32,
+    tied: u32,
+}
+
+fn count(number: &mut u32, met: bool) {
+    if met {
+        *number = number.wrapping_add(1);
+    }
+}
+
+impl Met {
+    fn add_walk(&mut self, start: &Seen, end: &Seen) {
+        let size = end.size.unwrap_or(0);
+        count(&mut self.at_once, end.opened == 0);
+        count(&mut self.pruned, end.opened > 0 && end.opened < size);
+        count(&mut self.long, end.opened > 20);
+        count(&mut self.improved, end.cost < start.cost);
+    }
+
+    fn check(&self, rt: &impl Abort) -> Result<(), Fail> {
+        assert!(rt; self.at_once > 50);
+        assert!(rt; self.pruned > 50);
+        assert!(rt; self.long > 50);
+        assert!(rt; self.improved > 50);
+        assert!(rt; self.inside > 50);
+        assert!(rt; self.taken > 50);
+        assert!(rt; self.kept > 50);
+        assert!(rt; self.tied > 50);
+        Ok(())
+    }
+}
+
+// A design, the same links as a plain list, and what each of its drawings costs.
+#[derive(Drop)]
+struct Trial {
+    heap: Global,
+    design: Design,
+    links: Vec<PlainLink>,
+    lefts: u8,
+    rights: u8,
+    prices: Vec<Price>,
+}
+
+impl Trial {
+    // One to four switches a side, a single one less often.
+    fn new(heap: Global, seed: &mut Seed) -> Result<Trial, Fail> {
+        let lefts = seed.below(7).wrapping_add(3) / 2;
+        let rights = seed.below(7).wrapping_add(3) / 2;
+        let chance = seed.below(8).wrapping_add(1);
+        let links = seed.links(heap, lefts, rights, chance)?;
+        let drawings = all_rows(heap, lefts, rights)?;
+        let prices = drawings
+            .iter()
+            .map(|rows| rows.cost(links.as_slice()))
+            .collect(heap)?;
+        Ok(Trial {
+            heap,
+            design: design(lefts, rights, links.as_slice())?,
+            links,
+            lefts,
+            rights,
+            prices,
+        })
+    }
+
+    fn cost<M: Keyed>(&self, rows: &Rows) -> Key {
+        M::of(rows.cost(self.links.as_slice()))
+    }
+
+    // What the first report of a walk says, but for its floor and whether the walk is done.
+    fn start<M: Keyed>(&self) -> Result<Seen, AllocError> {
+        let rows = first_rows(self.heap, self.lefts, self.rights)?;
+        Ok(Seen {
+            done: false,
+            opened: 0,
+            cost: self.cost::<M>(&rows),
+            floor: Key {
+                first: 0,
+                second: 0,
+            },
+            size: size_of(self.lefts, self.rights),
+            rows,
+        })
+    }
+
+    // The least cost of all drawings.
+    fn least<M: Keyed>(&self) -> Result<Key, Fail> {
+        let costs = self.prices.iter().map(|price| M::of(*price));
+        Ok(costs.min().ok_or("no drawing")?)
+    }
+}
+
+// A walk and what is known of it from outside: its rule, the least cost of all drawings, the nodes that its runs
+// answered, and the last report. The seed and what was met are passed on: with a `&mut` in it, no `?` on a `Watch` is
+// proved.
+#[derive(Drop)]
+struct Watch<'a, M: Keyed> {
+    trial: &'a Trial,
+    walk: Search<M>,
+    rule: Rule,
+    least: Key,
+    opened: u32,
+    last: Seen,
+}
+
+impl<'a, M: Keyed> Watch<'a, M> {
+    // A walk that is just started.
+    fn start(trial: &'a Trial, rule: Rule) -> Result<Watch<'a, M>, Fail> {
+        let least = trial.least::<M>()?;
+        let last = trial.start::<M>()?;
+        Ok(Watch {
+            trial,
+            walk: Search::start(trial.design, &rule),
+            rule,
+            least,
+            opened: 0,
+            last,
+        })
+    }
+
+    // Whether a report is true, and tells no less than the last one.
+    fn check(&self, rt: &impl Abort, seen: &Seen) -> Result<(), Fail> {
+        assert_eq!(rt; seen.cost, self.trial.cost::<M>(&seen.rows));
+        assert!(rt; seen.floor <= self.least && self.least <= seen.cost);
+        assert!(rt; self.last.floor <= seen.floor && seen.cost <= self.last.cost);
+        assert_eq!(rt; seen.done, seen.floor == seen.cost);
+        assert_eq!(rt; seen.opened, self.opened);
+        assert_eq!(rt; seen.size, size_of(self.trial.lefts, self.trial.rights));
+        assert!(rt; seen.opened <= seen.size.unwrap_or(0));
+        Ok(())
+    }
+
+    // Looks at the walk's report.
+    fn look(&mut self, rt: &impl Abort) -> Result<(), Fail> {
+        let seen = see(&self.walk);
+        self.check(rt, &seen)?;
+        self.last = seen;
+        Ok(())
+    }
+
+    // Opens one to seven nodes; fewer than asked for only if the walk is then done.
+    fn run(&mut self, rt: &impl Abort, seed: &mut Seed) -> Result<(), Fail> {
+        let nodes = u32::from(seed.below(7)).wrapping_add(1);
+        let opened = self.walk.run(&self.rule, nodes)?;
+        self.opened = self.opened.wrapping_add(opened);
+        self.look(rt)?;
+        assert!(rt; opened == nodes || opened < nodes && self.last.done);
+        Ok(())
+    }
+
+    // Offers a drawing, and looks at the walk's report; what became of it.
+    fn offer_one(&mut self, rt: &impl Abort, drawing: Drawing) -> Result<Offered<M::Amount>, Fail> {
+        let offered = self.walk.offer(drawing);
+        self.look(rt)?;
+        Ok(offered)
+    }
+
+    // Offers some drawing.
+    fn offer(&mut self, rt: &impl Abort, seed: &mut Seed, met: &mut Met) -> Result<(), Fail> {
+        let trial = self.trial;
+        let left = order(trial.heap, trial.lefts, seed.number())?;
+        let right = order(trial.heap, trial.rights, seed.number())?;
+        let drawing = Drawing::of(&trial.design, left.as_slice(), right.as_slice());
+        let drawing = drawing.ok_or("the rows are no drawing")?;
+        let rows = Rows::of(left.as_slice(), right.as_slice());
+        let cost = trial.cost::<M>(&rows);
+        let last = self.last;
+        let offered = self.offer_one(rt, drawing)?;
+        assert_eq!(rt; M::key(offered.cost), cost);
+        assert_eq!(rt; offered.taken, cost < last.cost);
+        assert_eq!(rt; self.last, last.after_offer(rows, cost));
+        count(&mut met.taken, cost < last.cost);
+        count(&mut met.kept, last.cost < cost);
+        count(&mut met.tied, last.cost == cost);
+        Ok(())
+    }
+
+    // Runs the walk to its end, with an offer now and then.
+    fn to_the_end(&mut self, rt: &impl Abort, seed: &mut Seed, met: &mut Met) -> Result<(), Fail> {
+        for _ in 0..2000 {
+            if seed.below(8) == 0 {
+                self.offer(rt, seed, met)?;
+            }
+            if self.last.done {
+                return Ok(());
+            }
+            self.run(rt, seed)?;
+            let inside = self.last.floor.first > 0 && self.last.floor < self.last.cost;
+            count(&mut met.inside, inside);
+        }
+        Err(Fail::new("the walk does not end"))
+    }
+
+    // A walk that is done has the least cost of all, and nothing changes any more.
+    fn beyond(&mut self, rt: &impl Abort, seed: &mut Seed, met: &mut Met) -> Result<(), Fail> {
+        let end = self.last;
+        assert_eq!(rt; end.cost, self.least);
+        assert_eq!(rt; end.floor, self.least);
+        self.run(rt, seed)?;
+        self.offer(rt, seed, met)?;
+        assert_eq!(rt; self.last, end);
+        Ok(())
+    }
+
+    // The walk from its start to its end and beyond.
+    fn check_whole(&mut self, rt: &impl Abort, seed: &mut Seed, met: &mut Met) -> Result<(), Fail> {
+        let expected = self.last;
+        self.look(rt)?;
+        let start = self.last;
+        assert_eq!(rt; start.cost, expected.cost);
+        self.to_the_end(rt, seed, met)?;
+        met.add_walk(&start, &self.last);
+        self.beyond(rt, seed, met)
+    }
+}
+
+// Random designs, under both measures and both rules.
+#[test]
+fn walks_against_all_drawings(rt: HostRuntime) -> Result<(), Fail> {
+    let mut seed = Seed::new(7);
+    let mut met = Met::default();
+    for _ in 0..300 {
+        let trial = Trial::new(rt.alloc(), &mut seed)?;
+        for rule in [Rule::Settled, Rule::Lesser] {
+            Watch::<ByStrands>::start(&trial, rule)?.check_whole(&rt, &mut seed, &mut met)?;
+            Watch::<ByTrunks>::start(&trial, rule)?.check_whole(&rt, &mut seed, &mut met)?;
+        }
+    }
+    met.check(&rt)
+}
