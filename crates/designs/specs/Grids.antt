@@ -1,6 +1,6 @@
 -- Designs as values: two sizes and the cells, and what a link does.
 use Rattle.std.specs.Prelude.{◌≡◌, ℕ, ◌+◌, ◌<◌, cond, ◌&&◌, ◌||◌, replicate, Ok, Err, Result, ◌==◌, nat_le, nat_lt, slice_set}
-use Rattle.measures.specs.Classes.{class_numbered}
+use Rattle.measures.specs.Classes.{class_numbered, either_class}
 use Rattle.measures.specs.Prices.{is_trunk}
 use Rattle.measures.specs.declared.link.Class.{Class}
 use Rattle.measures.specs.declared.link.Class.TheVariants.{Ordinary, Trunk}
@@ -40,10 +40,6 @@ link_check g a b s c =
     (cond (s == 0) (Err NoStrands)
     (cond (nat_lt 1 c) (Err UnknownClass)
     (cond (nat_lt 255 ((cell_in g a b).strands + s)) (Err CellFull) (Ok (class_numbered c)))))
-
--- the class of a cell that has links of these two classes
-abbrev pub either_class : Class → Class → Class
-either_class x y = cond (is_trunk x || is_trunk y) Trunk Ordinary
 
 -- a link more: its cell's strands added up, trunk if either link is
 abbrev pub with_link : Grid → ℕ → ℕ → ℕ → Class → Grid

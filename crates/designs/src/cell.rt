@@ -1,9 +1,10 @@
-ghost use Rattle.std.specs.Prelude.{◌≡◌};
-ghost use Rattle.designs.specs.Cells.{link_in};
+ghost use Rattle.std.specs.Prelude.{◌≡◌, ◌<◌};
+ghost use Rattle.designs.specs.Cells.{link_in, index};
 
 use measures::link::{Class, Link};
 
-// What stands between a left and a right switch: no strands, or one link.
+// What stands between a left and a right switch: no strands, or one link. No strands with class ordinary is a value of its
+// own by a project rule; an `Option<Link>` would still have links of no strands to rule out.
 #[derive(Clone, Copy)]
 pub struct Cell {
     pub strands: u8,
@@ -28,4 +29,11 @@ impl From<Cell> for Link {
 pub struct Cells {
     pub strands: [u8; 576],
     pub classes: [Class; 576],
+}
+
+// Where the cell of a left and a right switch is kept.
+pub(crate) fn cell_place(left: u8, right: u8) -> usize
+    ensures { result ≡ index left right }
+{
+    usize::from(left) * 24 + usize::from(right)
 }

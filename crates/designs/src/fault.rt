@@ -14,7 +14,8 @@ pub enum Layer {
     Search,
 }
 
-// Why a link is refused, and the number of each refusal.
+// Why a link is refused, and the number of each refusal. Each fault says its own number, by the enum's own rule, and is told
+// by number, layer and place: so there is no trait of numbers, and no Display.
 #[derive(Clone, Copy, PartialEq, Eq, Debug)]
 pub enum LinkFault {
     UnknownSwitch = 9,
@@ -66,7 +67,8 @@ impl From<LinkFault> for DesignFault {
     }
 }
 
-// Which row of a drawing is no order of its side's switches and then 255s, and the number of the refusal.
+// Which row of a drawing is no order of its side's switches and then 255s, and the number of the refusal: no Display, as
+// above.
 #[derive(Clone, Copy, PartialEq, Eq, Debug)]
 pub enum RowFault {
     LeftRow = 15,
@@ -92,8 +94,5 @@ pub struct Placed<F> {
 pub fn at_place<T, F>(res: Result<T, F>, place: usize) -> Result<T, Placed<F>>
     ensures { result ≡ at_place res place }
 {
-    match res {
-        Ok(value) => Ok(value),
-        Err(cause) => Err(Placed { cause, place }),
-    }
+    res.map_err(|cause| Placed { cause, place })
 }

@@ -16,7 +16,7 @@ pub fn over_each<A: Amount, F: Fn(u8) -> A>(row: &[u8], amount: F) -> A
     sum
 }
 
-// The join of an amount for each two switches of a row, the earlier first.
+// The join of an amount for each two switches of a row, the earlier first. No iterator gives each with the rest behind it.
 pub fn over_two<A: Amount, F: Fn(u8, u8) -> A>(row: &[u8], amount: F) -> A
     requires { All (λ x. All (λ y. F.pre amount x y) row.now) row.now }
     ensures { (f : ℕ → ℕ → A) → GivesTwo (F.post amount) f row.now → result ≡ over_two A.Amount.kind f row.now }

@@ -1,5 +1,6 @@
 #![tactic(auto)]
 
+pub mod best;
 pub mod cell;
 pub mod choosing;
 pub mod comparing;

@@ -5,8 +5,8 @@ use crate::side::SideSize;
 
 pub mod reading;
 
-// An order of the switches of one side, filled up with 255 to 24 bytes. Memory is fixed (no call uses the heap), and these
-// are the bytes as a script has them, so the size stands beside them.
+// An order of the switches of one side, filled up with 255 to 24 bytes: those of a script's row, 255s and all, which a list
+// of names would not keep. A row is copied, which vectors of fixed capacity cannot be, so the size stands beside the bytes.
 #[derive(Clone, Copy)]
 pub struct Row {
     size: SideSize,

@@ -1,12 +1,12 @@
 ghost use Rattle.std.specs.Prelude.{◌≡◌};
 ghost use Rattle.measures.specs.Prices.{is_trunk, product};
-ghost use Rattle.measures.specs.Classes.{read_class};
+ghost use Rattle.measures.specs.Classes.{read_class, either_class};
 
 // The class of a link.
 #[derive(Clone, Copy, PartialEq, Eq, Debug)]
 pub enum Class {
-    Ordinary,
-    Trunk,
+    Ordinary = 0,
+    Trunk = 1,
 }
 
 // A number that names no class.
@@ -33,6 +33,13 @@ impl Class {
         ensures { result ≡ is_trunk self }
     {
         self == Class::Trunk
+    }
+
+    // A trunk if one of the two is.
+    pub fn either(self, other: Class) -> Class
+        ensures { result ≡ either_class self other }
+    {
+        if self.is_trunk() { self } else { other }
     }
 }
 

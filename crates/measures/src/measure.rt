@@ -27,7 +27,8 @@ pub trait Measure {
     ghost exchanged: { (a b : Link) → priced a b ≡ priced b a };
 }
 
-// A measure that also writes its amounts: 1 to 41 bytes, none of them a space.
+// A measure that also writes its amounts: 1 to 41 bytes, none of them a space. It gives a text and does not print by
+// `write!`, of which nothing is known where it fails.
 pub trait PrintingMeasure: Measure {
     ghost written: { Self.Amount → List ℕ };
 

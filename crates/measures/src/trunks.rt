@@ -28,7 +28,7 @@ impl Measure for ByTrunks {
     ghost exchanged = { trunks_exchanged };
 
     fn price(a: Link, b: Link) -> Pair {
-        if a.class.is_trunk() || b.class.is_trunk() {
+        if a.class.either(b.class).is_trunk() {
             Pair::of(a.product(b), 0)
         } else {
             Pair::of(0, a.product(b))

@@ -1,5 +1,5 @@
 -- Sizes that are absent above a ceiling.
-use Rattle.std.proofs.Common.{◌≡◌, ℕ, zero, suc, ◌+◌, ◌-◌, ◌*◌, ◌<◌, ◌≤◌, Some, None, ap, arith}
+use Rattle.std.proofs.Common.{◌≡◌, ℕ, zero, suc, ◌+◌, ◌-◌, ◌*◌, ◌<◌, ◌≤◌, Some, None, sym, ap, ◌∙◌, arith}
 use Rattle.std.proofs.lemmas.Bool.Decides.{nat_tests}
 use Rattle.partials.specs.Sizes.{right_size, left_size, unless_above}
 
@@ -8,12 +8,6 @@ over x y le e = grind (arith, nat_tests)
 
 under : (x b : ℕ) → Some b ≡ unless_above x → x ≡ b
 under x b e = grind (arith, nat_tests)
-
-is_none : (x : ℕ) → 1000000000 < x → None ≡ unless_above x
-is_none x h = grind (arith, nat_tests)
-
-is_some : (x : ℕ) → x ≤ 1000000000 → Some x ≡ unless_above x
-is_some x h = grind (arith, nat_tests)
 
 grows : (f x : ℕ) → 0 < f → x ≤ f * (1 + x)
 grows zero x h = omega arith
@@ -24,11 +18,8 @@ module _ (f x y : ℕ) (some : 0 < f) (step : y ≡ f * (1 + x)) where
   pub level_none : None ≡ unless_above x → None ≡ unless_above y
   level_none e = over x y (omega (arith, grows f x some)) e
 
-  pub level_over : (b : ℕ) → Some b ≡ unless_above x → 1000000000 < f * (1 + b) → None ≡ unless_above y
-  level_over b e h = is_none y (rw (step, under x b e) h)
-
-  pub level_some : (b : ℕ) → Some b ≡ unless_above x → f * (1 + b) ≤ 1000000000 → Some (f * (1 + b)) ≡ unless_above y
-  level_some b e h = rw (step, under x b e) (is_some (f * (1 + b)) h)
+  pub level_more : (b : ℕ) → Some b ≡ unless_above x → unless_above (f * (1 + b)) ≡ unless_above y
+  level_more b e = ap unless_above (ap (λ n. f * (1 + n)) (sym (under x b e)) ∙ sym step)
 
 pub right_step : (j : ℕ) → 0 < j → right_size j ≡ j * (1 + right_size (j - 1))
 right_step zero h = omega arith

@@ -14,7 +14,8 @@ use designs::design::Design;
 use measures::amount::Amount;
 use measures::measure::Measure;
 
-// Rule 1: the known price of every settled pair.
+// Rule 1: the known price of every settled pair. It is a type, as is rule 2, for a walk that has one rule alone; the enum
+// below chooses by a number.
 #[derive(Clone, Copy)]
 pub struct SettledPairs;
 

@@ -2,8 +2,8 @@ ghost use Rattle.std.specs.Prelude.{◌≡◌, ℕ, ◌<◌, ◌≤◌, length, 
 
 pub mod listing;
 
-// At most N switches of one side in a row. Memory is fixed (no call uses the heap), and a node is copied, which the
-// vectors of fixed capacity cannot be: so the count stands here, beside the array, and nowhere else.
+// At most N switches of one side in a row. Memory is fixed, as no call uses the heap, and a node is copied, which vectors of
+// fixed capacity cannot be: so the count stands beside the array. A row of a drawing is no list of this kind: it keeps 255s.
 #[derive(Clone, Copy)]
 pub struct Names<const N: usize> {
     names: [u8; N],

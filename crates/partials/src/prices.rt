@@ -5,7 +5,8 @@ ghost use Rattle.designs.specs.Grids.{grid_of, cell_in};
 use designs::design::Design;
 use measures::measure::Measure;
 
-// Both prices of right switches u and v over the placed left switches: with u before v, and with v before u.
+// Both prices of right switches u and v over the placed left switches: with u before v, and with v before u. They are given
+// together as a tuple, by a project rule.
 pub fn pair_price<M: Measure>(design: &Design, left: &[u8], u: u8, v: u8) -> (M::Amount, M::Amount)
     requires left { All (λ a. a < 24) left.now }
     requires first { u < 24 }

@@ -14,14 +14,15 @@ use designs::joining::{over_each, over_two};
 use measures::amount::Amount;
 use measures::measure::Measure;
 
-// The lesser of two amounts, the first where they are level.
+// The lesser of two amounts, the first where they are level. An amount is no Ord, so it has no min.
 pub fn lesser_of<A: Amount>(x: A, y: A) -> A
     ensures { result ≡ lesser A.Amount.kind x y }
 {
     if x.is_at_most(y) { x } else { y }
 }
 
-// The known price of right switches u before v.
+// The known price of right switches u before v, of a pair's two prices, which a project rule has given together. Design and
+// node stay two parameters: a struct of the two would stand in every clause with one name more to read through.
 fn known<M: Measure>(design: &Design, node: &Node, u: u8, v: u8) -> M::Amount
     requires first { u < 24 }
     requires second { v < 24 }

@@ -11,6 +11,13 @@ use designs::design::Design;
 // no twins: one counts places to put a switch in, the other switches left over.
 const CEILING: u64 = 1_000_000_000;
 
+// A size, unless it is above the ceiling.
+fn unless_above(size: u64) -> Option<u64>
+    ensures { result ≡ unless_above size }
+{
+    (size <= CEILING).then_some(size)
+}
+
 // The nodes below a full left row with so many right switches unplaced.
 fn right_size(unplaced: u8) -> Option<u64>
     ensures { result ≡ unless_above (right_size unplaced) }
@@ -19,8 +26,7 @@ fn right_size(unplaced: u8) -> Option<u64>
         return Some(0);
     }
     let below = right_size(unplaced - 1)?;
-    let size = unplaced as u64 * (1 + below);
-    if size > CEILING { None } else { Some(size) }
+    unless_above(u64::from(unplaced) * (1 + below))
 }
 
 // The nodes below the first left switches, of which `placed` are placed and `unplaced` are not.
@@ -32,11 +38,11 @@ fn left_size(rights: u8, placed: u8, unplaced: u8) -> Option<u64>
         return right_size(rights);
     }
     let below = left_size(rights, placed + 1, unplaced - 1)?;
-    let size = (placed as u64 + 1) * (1 + below);
-    if size > CEILING { None } else { Some(size) }
+    unless_above((u64::from(placed) + 1) * (1 + below))
 }
 
-// The size of the tree of a design with these sizes.
+// The size of the tree of a design with these sizes. What is proved of it by hand stands here, and not in the public
+// function.
 fn size_of(lefts: u8, rights: u8) -> Option<u32>
     requires { lefts ≤ 24 }
     ensures size { result ≡ unless_above (tree_size lefts rights) }

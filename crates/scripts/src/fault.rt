@@ -21,7 +21,8 @@ pub enum SearchFault {
     InRow(RowFault),
 }
 
-// Why a call is refused.
+// Why a call is refused. A layer's fault stands beside its place, nested and carried by `?` and From as a project rule asks,
+// so each layer has a variant and a conversion of its own. Its words are a line's: number, layer and place, and no Display.
 #[derive(Clone, Copy, PartialEq, Eq, Debug)]
 pub enum ScriptFault {
     ShortLine { place: usize },

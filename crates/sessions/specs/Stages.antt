@@ -25,7 +25,7 @@ pub data Stage (A : Type 0) : Type 0 where
   searching : Grid → TwoRows → A → Stage A
 
 abbrev pub stage_searching : {M A : Type 0} → Search M A → Stage A
-stage_searching s = searching (grid_of s.design) (rows_of s.incumbent) s.cost
+stage_searching s = searching (grid_of s.design) (rows_of s.best.drawing) s.best.cost
 
 abbrev pub stage_of : {M A : Type 0} → Condition M A → Stage A
 stage_of Set = set

@@ -1,5 +1,5 @@
 -- The lines that a call writes. Fields are parted by a space (32), and a line ends with byte 10.
-use Rattle.std.specs.Prelude.{ℕ, Bool, cond, List, [], ◌∷◌, ◌++◌, length, drop, Ok, Err, codes, decimal, Result, nat_lt}
+use Rattle.std.specs.Prelude.{◌≡◌, ℕ, Bool, cond, List, [], ◌∷◌, ◌++◌, length, drop, Ok, Err, codes, decimal, Result, nat_lt}
 use Rattle.designs.specs.declared.fault.Layer.{Layer}
 use Rattle.designs.specs.declared.fault.Layer.TheVariants.{Script, Setup, Design, Search}
 use Rattle.scripts.specs.Faults.{number_of, layer_of, place_of}
@@ -43,3 +43,8 @@ if_room room bytes = cond (nat_lt room 256) [] bytes
 -- a line after these bytes were written at its start: those behind them are unchanged
 abbrev pub written_on : List ℕ → List ℕ → List ℕ
 written_on line bytes = bytes ++ drop (length bytes) line
+
+-- so many bytes were written at the start of a line, those of a text, and the rest of it is as it was
+pub record Writes (old new : List ℕ) (count : ℕ) (text : List ℕ) : Type 0 where
+  pub wrote : count ≡ length text
+  pub bytes : new ≡ written_on old text

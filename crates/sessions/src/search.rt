@@ -1,5 +1,5 @@
+use designs::best::Best;
 use designs::design::Design;
-use designs::drawing::Drawing;
 use measures::measure::Measure;
 
 pub mod offering;
@@ -8,6 +8,5 @@ pub mod offering;
 #[derive(Drop)]
 pub struct Search<M: Measure> {
     pub(crate) design: Design,
-    pub(crate) incumbent: Drawing,
-    pub(crate) cost: M::Amount,
+    pub(crate) best: Best<M::Amount>,
 }

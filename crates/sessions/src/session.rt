@@ -11,7 +11,8 @@ use scripts::fault::ScriptFault;
 
 pub mod calling;
 
-// A session: fresh, or with the measure and the rule that its M chose.
+// A session: fresh, or with the measure and the rule that its M chose. A measure is a type and chosen at run time, so each
+// has a variant, and each variant an arm.
 #[derive(Drop)]
 pub enum Session {
     Fresh,
@@ -20,6 +21,7 @@ pub enum Session {
 }
 
 // What a call answers: why it refused, if it did, the next command's byte, and how many bytes of the lent line it wrote.
+// The line is the caller's, so what was written of it is a number.
 #[derive(Clone, Copy, PartialEq, Eq, Debug)]
 pub struct Answer {
     pub refused: Option<ScriptFault>,

@@ -2,7 +2,8 @@ use measures::link::Link;
 use measures::measure::Measure;
 use scripts::fault::ScriptFault;
 
-// What an accepted command told. An offer's cost is told whether it was taken or not, so the flag stands beside it.
+// What an accepted command told. An offer's cost is told whether it was taken or not, so the flag stands beside it;
+// a search that stands alone answers the same two in a struct, as it tells nothing else.
 #[derive(Drop)]
 pub enum Telling<M: Measure> {
     Sized { left: u8, right: u8 },
@@ -18,8 +19,8 @@ pub struct Reply<M: Measure> {
     pub next: usize,
 }
 
-// What a call on a line answers: that, and how many bytes it wrote. The line is lent and memory is fixed (no call uses the
-// heap), so what was written is a number of its bytes.
+// What a call on a line answers: that, and how many bytes it wrote. The line is the caller's, so what was
+// written of it is a number.
 #[derive(Drop)]
 pub struct LineReply<M: Measure> {
     pub reply: Reply<M>,

@@ -1,5 +1,5 @@
 ghost use Rattle.std.specs.Prelude.{◌≡◌, ◌≤◌, length};
-ghost use Rattle.sessions.specs.Texts.{layer_name, offer_word, refusal_line, told_line, answer_line, if_room, written_on};
+ghost use Rattle.sessions.specs.Texts.{layer_name, offer_word, refusal_line, told_line, answer_line, if_room, Writes};
 
 use crate::telling::Telling;
 use arrayvec::ArrayString;
@@ -9,6 +9,8 @@ use measures::measure::PrintingMeasure;
 use scripts::command::LINE;
 use scripts::fault::ScriptFault;
 
+// The words of a line are pushed, and not printed by `write!` or a Display: nothing is known of what a failed one wrote, and
+// a line's bytes are promised for every call.
 fn layer_name(layer: Layer) -> &'static str
     ensures name { result.now ≡ layer_name layer }
     ensures short { length result.now ≤ 6 }
@@ -59,8 +61,7 @@ fn telling_text<P: PrintingMeasure>(telling: &Telling<P>) -> ArrayString<LINE>
 
 // Copies a text to the line's start, unless the line is too short, and answers how many bytes it wrote.
 fn write_text(line: &mut [u8], text: &ArrayString<LINE>) -> usize
-    ensures wrote { result ≡ length (if_room (length line.old) text.now.bytes) }
-    ensures bytes { line.new ≡ written_on line.old (if_room (length line.old) text.now.bytes) }
+    ensures writes { Writes line.old line.new result (if_room (length line.old) text.now.bytes) }
 {
     if line.len() < LINE {
         return 0;
@@ -72,8 +73,7 @@ fn write_text(line: &mut [u8], text: &ArrayString<LINE>) -> usize
 
 // Writes a refusal, unless the line is too short.
 pub fn write_refusal(line: &mut [u8], fault: ScriptFault) -> usize
-    ensures wrote { result ≡ length (if_room (length line.old) (refusal_line fault)) }
-    ensures bytes { line.new ≡ written_on line.old (if_room (length line.old) (refusal_line fault)) }
+    ensures writes { Writes line.old line.new result (if_room (length line.old) (refusal_line fault)) }
 {
     write_text(line, &refusal_text(fault))
 }
@@ -83,8 +83,7 @@ pub fn write_answer<P: PrintingMeasure>(
     line: &mut [u8],
     told: &Result<Telling<P>, ScriptFault>,
 ) -> usize
-    ensures wrote { result ≡ length (if_room (length line.old) (answer_line P.PrintingMeasure.written told.now)) }
-    ensures bytes { line.new ≡ written_on line.old (if_room (length line.old) (answer_line P.PrintingMeasure.written told.now)) }
+    ensures writes { Writes line.old line.new result (if_room (length line.old) (answer_line P.PrintingMeasure.written told.now)) }
 {
     let text = match told {
         Ok(telling) => telling_text::<P>(telling),

@@ -8,7 +8,6 @@ use partials::delivered::Rule;
 use std::alloc::{AllocError, Global};
 use std::process::Abort;
 use std::test::*;
-use walks::offered::Offered;
 use walks::walk::Search;
 
 // What the trials met, so that none of it is left out: walks done at once, done with fewer nodes than there are,
@@ -25,6 +24,7 @@ struct Met {
     tied: u32,
 }
 
+// One more, if this was met.
 fn count(number: &mut u32, met: bool) {
     if met {
         *number = number.wrapping_add(1);
@@ -113,37 +113,32 @@ impl Trial {
     }
 }
 
-// A walk and what is known of it from outside: its rule, the least cost of all drawings, the nodes that its runs
-// answered, and the last report. The seed and what was met are passed on: with a `&mut` in it, no `?` on a `Watch` is
-// proved.
+// What is known of a walk from outside: its rule, the least cost of all drawings, the nodes that its runs answered, and
+// the last report. The walk is lent to each step: held here, for any measure, it is not found to fit into memory.
 #[derive(Drop)]
-struct Watch<'a, M: Keyed> {
+struct Watch<'a> {
     trial: &'a Trial,
-    walk: Search<M>,
     rule: Rule,
     least: Key,
     opened: u32,
     last: Seen,
 }
 
-impl<'a, M: Keyed> Watch<'a, M> {
-    // A walk that is just started.
-    fn start(trial: &'a Trial, rule: Rule) -> Result<Watch<'a, M>, Fail> {
-        let least = trial.least::<M>()?;
-        let last = trial.start::<M>()?;
+impl<'a> Watch<'a> {
+    // What is known of a walk that is just started.
+    fn start<M: Keyed>(trial: &'a Trial, rule: Rule) -> Result<Watch<'a>, Fail> {
         Ok(Watch {
             trial,
-            walk: Search::start(trial.design, &rule),
             rule,
-            least,
+            least: trial.least::<M>()?,
             opened: 0,
-            last,
+            last: trial.start::<M>()?,
         })
     }
 
-    // Whether a report is true, and tells no less than the last one.
-    fn check(&self, rt: &impl Abort, seen: &Seen) -> Result<(), Fail> {
-        assert_eq!(rt; seen.cost, self.trial.cost::<M>(&seen.rows));
+    // Whether a report is true, and tells no less than the last one; `cost` is that of the drawing in it.
+    fn check(&self, rt: &impl Abort, seen: &Seen, cost: Key) -> Result<(), Fail> {
+        assert_eq!(rt; seen.cost, cost);
         assert!(rt; seen.floor <= self.least && self.least <= seen.cost);
         assert!(rt; self.last.floor <= seen.floor && seen.cost <= self.last.cost);
         assert_eq!(rt; seen.done, seen.floor == seen.cost);
@@ -154,43 +149,49 @@ impl<'a, M: Keyed> Watch<'a, M> {
     }
 
     // Looks at the walk's report.
-    fn look(&mut self, rt: &impl Abort) -> Result<(), Fail> {
-        let seen = see(&self.walk);
-        self.check(rt, &seen)?;
+    fn look<M: Keyed>(&mut self, rt: &impl Abort, walk: &Search<M>) -> Result<(), Fail> {
+        let seen = see(walk);
+        self.check(rt, &seen, self.trial.cost::<M>(&seen.rows))?;
         self.last = seen;
         Ok(())
     }
 
     // Opens one to seven nodes; fewer than asked for only if the walk is then done.
-    fn run(&mut self, rt: &impl Abort, seed: &mut Seed) -> Result<(), Fail> {
+    fn run<M: Keyed>(
+        &mut self,
+        rt: &impl Abort,
+        seed: &mut Seed,
+        walk: &mut Search<M>,
+    ) -> Result<(), Fail> {
         let nodes = u32::from(seed.below(7)).wrapping_add(1);
-        let opened = self.walk.run(&self.rule, nodes)?;
+        let opened = walk.run(&self.rule, nodes)?;
         self.opened = self.opened.wrapping_add(opened);
-        self.look(rt)?;
+        self.look(rt, walk)?;
         assert!(rt; opened == nodes || opened < nodes && self.last.done);
         Ok(())
     }
 
-    // Offers a drawing, and looks at the walk's report; what became of it.
-    fn offer_one(&mut self, rt: &impl Abort, drawing: Drawing) -> Result<Offered<M::Amount>, Fail> {
-        let offered = self.walk.offer(drawing);
-        self.look(rt)?;
-        Ok(offered)
-    }
-
     // Offers some drawing.
-    fn offer(&mut self, rt: &impl Abort, seed: &mut Seed, met: &mut Met) -> Result<(), Fail> {
+    fn offer<M: Keyed>(
+        &mut self,
+        rt: &impl Abort,
+        seed: &mut Seed,
+        met: &mut Met,
+        walk: &mut Search<M>,
+    ) -> Result<(), Fail> {
         let trial = self.trial;
         let left = order(trial.heap, trial.lefts, seed.number())?;
         let right = order(trial.heap, trial.rights, seed.number())?;
-        let drawing = Drawing::of(&trial.design, left.as_slice(), right.as_slice());
-        let drawing = drawing.ok_or("the rows are no drawing")?;
+        let Some(drawing) = Drawing::of(&trial.design, left.as_slice(), right.as_slice()) else {
+            return Err(Fail::new("the rows are no drawing"));
+        };
         let rows = Rows::of(left.as_slice(), right.as_slice());
         let cost = trial.cost::<M>(&rows);
         let last = self.last;
-        let offered = self.offer_one(rt, drawing)?;
+        let offered = walk.offer(drawing);
         assert_eq!(rt; M::key(offered.cost), cost);
         assert_eq!(rt; offered.taken, cost < last.cost);
+        self.look(rt, walk)?;
         assert_eq!(rt; self.last, last.after_offer(rows, cost));
         count(&mut met.taken, cost < last.cost);
         count(&mut met.kept, last.cost < cost);
@@ -199,15 +200,21 @@ impl<'a, M: Keyed> Watch<'a, M> {
     }
 
     // Runs the walk to its end, with an offer now and then.
-    fn to_the_end(&mut self, rt: &impl Abort, seed: &mut Seed, met: &mut Met) -> Result<(), Fail> {
+    fn to_the_end<M: Keyed>(
+        &mut self,
+        rt: &impl Abort,
+        seed: &mut Seed,
+        met: &mut Met,
+        walk: &mut Search<M>,
+    ) -> Result<(), Fail> {
         for _ in 0..2000 {
             if seed.below(8) == 0 {
-                self.offer(rt, seed, met)?;
+                self.offer(rt, seed, met, walk)?;
             }
             if self.last.done {
                 return Ok(());
             }
-            self.run(rt, seed)?;
+            self.run(rt, seed, walk)?;
             let inside = self.last.floor.first > 0 && self.last.floor < self.last.cost;
             count(&mut met.inside, inside);
         }
@@ -215,25 +222,37 @@ impl<'a, M: Keyed> Watch<'a, M> {
     }
 
     // A walk that is done has the least cost of all, and nothing changes any more.
-    fn beyond(&mut self, rt: &impl Abort, seed: &mut Seed, met: &mut Met) -> Result<(), Fail> {
+    fn beyond<M: Keyed>(
+        &mut self,
+        rt: &impl Abort,
+        seed: &mut Seed,
+        met: &mut Met,
+        walk: &mut Search<M>,
+    ) -> Result<(), Fail> {
         let end = self.last;
         assert_eq!(rt; end.cost, self.least);
         assert_eq!(rt; end.floor, self.least);
-        self.run(rt, seed)?;
-        self.offer(rt, seed, met)?;
+        self.run(rt, seed, walk)?;
+        self.offer(rt, seed, met, walk)?;
         assert_eq!(rt; self.last, end);
         Ok(())
     }
 
     // The walk from its start to its end and beyond.
-    fn check_whole(&mut self, rt: &impl Abort, seed: &mut Seed, met: &mut Met) -> Result<(), Fail> {
+    fn check_whole<M: Keyed>(
+        &mut self,
+        rt: &impl Abort,
+        seed: &mut Seed,
+        met: &mut Met,
+        walk: &mut Search<M>,
+    ) -> Result<(), Fail> {
         let expected = self.last;
-        self.look(rt)?;
+        self.look(rt, walk)?;
         let start = self.last;
         assert_eq!(rt; start.cost, expected.cost);
-        self.to_the_end(rt, seed, met)?;
+        self.to_the_end(rt, seed, met, walk)?;
         met.add_walk(&start, &self.last);
-        self.beyond(rt, seed, met)
+        self.beyond(rt, seed, met, walk)
     }
 }
 
@@ -245,8 +264,12 @@ fn walks_against_all_drawings(rt: HostRuntime) -> Result<(), Fail> {
     for _ in 0..300 {
         let trial = Trial::new(rt.alloc(), &mut seed)?;
         for rule in [Rule::Settled, Rule::Lesser] {
-            Watch::<ByStrands>::start(&trial, rule)?.check_whole(&rt, &mut seed, &mut met)?;
-            Watch::<ByTrunks>::start(&trial, rule)?.check_whole(&rt, &mut seed, &mut met)?;
+            let mut strands = Search::<ByStrands>::start(trial.design, &rule);
+            let mut watch = Watch::start::<ByStrands>(&trial, rule)?;
+            watch.check_whole(&rt, &mut seed, &mut met, &mut strands)?;
+            let mut trunks = Search::<ByTrunks>::start(trial.design, &rule);
+            let mut watch = Watch::start::<ByTrunks>(&trial, rule)?;
+            watch.check_whole(&rt, &mut seed, &mut met, &mut trunks)?;
         }
     }
     met.check(&rt)

@@ -1,4 +1,4 @@
-use crate::plain::{PlainLink, Rows, Sheet, design};
+use crate::plain::{PlainLink, Rows, Sheet, all_rows, design};
 use designs::choosing::{ChoiceFault, PartFault, choose, read_part};
 use designs::comparing::{Comparison, compare};
 use designs::design::Design;
@@ -47,15 +47,6 @@ const LINKS: [PlainLink; 6] = [
         strands: 7,
         class: Class::Trunk,
     },
-];
-
-const ORDERS: [[u8; 3]; 6] = [
-    [0, 1, 2],
-    [0, 2, 1],
-    [1, 0, 2],
-    [1, 2, 0],
-    [2, 0, 1],
-    [2, 1, 0],
 ];
 
 // A design, and the same links as a plain list.
@@ -114,21 +105,10 @@ impl Trial {
     }
 }
 
-// Every drawing of three and three switches.
-fn all_rows(heap: Global) -> Result<Vec<Rows>, AllocError> {
-    let mut rows = Vec::new(heap);
-    for left in &ORDERS {
-        for right in &ORDERS {
-            rows.push(Rows::of(left, right))?;
-        }
-    }
-    Ok(rows)
-}
-
 // Every drawing of the design against every other.
 fn check_choices(rt: &(impl Abort + AllocGlobal)) -> Result<(), Fail> {
     let trial = Trial::new(rt)?;
-    let rows = all_rows(rt.alloc())?;
+    let rows = all_rows(rt.alloc(), 3, 3)?;
     let mut met = Vec::new(rt.alloc());
     for one in rows.iter() {
         for two in rows.iter() {

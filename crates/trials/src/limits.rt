@@ -1,3 +1,4 @@
+use crate::plain::PlainLink;
 use designs::design::Design;
 use designs::fault::{DesignFault, LinkFault};
 use measures::link::Class;
@@ -242,47 +243,39 @@ const LINKS: [LinkCase; 22] = [
     },
 ];
 
-// A cell of that design in the end.
-#[derive(Drop)]
-struct CellCase {
-    left: u8,
-    right: u8,
-    strands: u8,
-    class: Class,
-}
-
-const CELLS: [CellCase; 6] = [
-    CellCase {
+// The cells of that design in the end.
+const CELLS: [PlainLink; 6] = [
+    PlainLink {
         left: 0,
         right: 0,
         strands: 255,
         class: Class::Ordinary,
     },
-    CellCase {
+    PlainLink {
         left: 0,
         right: 1,
         strands: 7,
         class: Class::Trunk,
     },
-    CellCase {
+    PlainLink {
         left: 0,
         right: 2,
         strands: 0,
         class: Class::Ordinary,
     },
-    CellCase {
+    PlainLink {
         left: 1,
         right: 0,
         strands: 11,
         class: Class::Trunk,
     },
-    CellCase {
+    PlainLink {
         left: 1,
         right: 1,
         strands: 0,
         class: Class::Ordinary,
     },
-    CellCase {
+    PlainLink {
         left: 1,
         right: 2,
         strands: 255,

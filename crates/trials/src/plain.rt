@@ -32,7 +32,8 @@ impl Seed {
         self.byte() % limit.max(1)
     }
 
-    // The switches of one side in some order. Each is put in among those before it, which no iterator's method says.
+    // The switches of one side in some order. Each is put in among those before it, which no iterator's method says, and the
+    // place is drawn anew for each, where `order` below takes it from one number.
     pub fn row(&mut self, heap: Global, size: u8) -> Result<Vec<u8>, AllocError> {
         let mut row = Vec::new(heap);
         for switch in 0..size {
@@ -100,11 +101,7 @@ impl PlainLink {
 
     // Puts the link into a design, which takes the class by its number.
     pub fn put_into(&self, design: &mut Design) -> Result<Class, DesignFault> {
-        let class = match self.class {
-            Class::Ordinary => 0,
-            Class::Trunk => 1,
-        };
-        design.link(self.left, self.right, self.strands, class)
+        design.link(self.left, self.right, self.strands, self.class as u8)
     }
 }
 
@@ -117,7 +114,8 @@ pub fn design(lefts: u8, rights: u8, links: &[PlainLink]) -> Result<Design, Fail
     Ok(design)
 }
 
-// The links of a design as a plain list, one for each cell that has any.
+// The links of a design as a plain list, one for each cell that has any. It is searched as one reads a list, so that it has
+// nothing in common with the library; a cell without a link has no strands, as there.
 #[derive(Drop)]
 pub struct Sheet {
     links: Vec<PlainLink>,

@@ -358,7 +358,8 @@ impl Case {
         Ok(Search::start(design, &self.rule))
     }
 
-    // A walk that was just started, to its end and beyond. It is lent: of a walk made here no size would be known.
+    // A walk that was just started, to its end and beyond. It is lent: of a walk made here, for any
+    // measure, it is not found that it fits into memory.
     fn check_whole<M: Keyed>(
         &self,
         rt: &(impl Abort + AllocGlobal),
@@ -387,6 +388,7 @@ impl Case {
     }
 }
 
+// A loop for each measure, since no walk is made in a generic function (see `check_whole`).
 #[test]
 fn worked_designs(rt: HostRuntime) -> Result<(), Fail> {
     for case in &BY_STRANDS {

@@ -45,7 +45,7 @@ module _ {M A : Type 0} {gm : MeasureGhosts M A} {ga : AmountGhosts A} where
         }
 
     pub weighed : (x : TwoRows) (s t : Search M A gm ga) (r : Offered A) → GoesTo s t (offer ga.kind (cost_in s) x (walk_of s))
-        → r.cost ≡ cost_in s x → r.taken ≡ not (ga.kind.at_most s.least r.cost) → Weighed x s t r
+        → r.cost ≡ cost_in s x → r.taken ≡ not (ga.kind.at_most s.best.cost r.cost) → Weighed x s t r
     weighed x s t r h e f =
         let g = grid_in s in
         record {

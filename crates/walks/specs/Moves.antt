@@ -35,7 +35,7 @@ module _ {M A : Type 0} {gm : MeasureGhosts M A} {ga : AmountGhosts A} where
     pub design : t.path.design ≡ s.path.design
     pub walk : walk_of t ≡ offer ga.kind (cost_in s) x (walk_of s)
     pub cost : r.cost ≡ cost_in s x
-    pub taken : r.taken ≡ not (ga.kind.at_most s.least r.cost)
+    pub taken : r.taken ≡ not (ga.kind.at_most s.best.cost r.cost)
     -- with a drawing of the design below the root it goes on below the same root, by whatever rule
     pub below : (answered : Grid → Partial → A) (root : Partial) → DrawingOf (grid_in s) x → Completes root x → SearchBelow answered root s → SearchBelow answered root t
     pub steady : (answered : Grid → Partial → A) (root : Partial) → Bounding ga.kind gm.priced answered → DrawingOf (grid_in s) x → Completes root x → SearchBelow answered root s → Steady ga.kind (walk_of s) (walk_of t)

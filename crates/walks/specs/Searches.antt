@@ -18,7 +18,7 @@ Bounding K priced answered = (g : Grid) (p : Partial) (x : TwoRows) → DrawingO
 
 module _ {M A : Type 0} {gm : MeasureGhosts M A} {ga : AmountGhosts A} where
   abbrev pub walk_of : Search M A gm ga → Walk A
-  walk_of s = record { incumbent = rows_of s.incumbent; least = s.least; opened = s.opened; frontier = frontier_of s.path }
+  walk_of s = record { incumbent = rows_of s.best.drawing; least = s.best.cost; opened = s.opened; frontier = frontier_of s.path }
 
   abbrev pub grid_in : Search M A gm ga → Grid
   grid_in s = grid_of s.path.design

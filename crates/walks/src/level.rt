@@ -13,7 +13,8 @@ pub struct Level<A> {
     pub(crate) tried: u8,
 }
 
-// What the places behind the deepest level hold: the root, at no cost.
+// What the places behind the deepest level hold: the root, at no cost. By hand, since a derive would ask a Default of the
+// amount.
 impl<A: Amount> Default for Level<A> {
     ghost is_default = { λ x. (partial_of x.node ≡ nothing_placed) × (x.bound ≡ A.Amount.kind.zero) × (x.tried ≡ 0) };
 

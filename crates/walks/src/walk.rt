@@ -1,7 +1,7 @@
 ghost use Rattle.std.specs.Prelude.{◌≤◌};
 
 use crate::path::Path;
-use designs::drawing::Drawing;
+use designs::best::Best;
 use measures::measure::Measure;
 
 pub mod offering;
@@ -14,8 +14,7 @@ pub mod starting;
 #[derive(Drop)]
 pub struct Search<M: Measure> {
     path: Path<M::Amount>,
-    incumbent: Drawing,
-    least: M::Amount,
+    best: Best<M::Amount>,
     opened: u32,
     ghost few: { opened ≤ 1000000000 },
 }

@@ -1,14 +1,15 @@
 ghost use Rattle.std.specs.Prelude.{◌≡◌, ℕ, ◌+◌, ◌<◌, ◌≤◌, true, false, replicate, IfOk, OnErr};
 ghost use Rattle.measures.specs.declared.link.Class.TheVariants.{Ordinary, Trunk};
-ghost use Rattle.designs.specs.Grids.{grid_of, no_links, sized, link_check, in_link, after_link, with_link, either_class, cell_in, LinkAdded};
+ghost use Rattle.designs.specs.Grids.{grid_of, no_links, sized, link_check, in_link, after_link, with_link, cell_in, LinkAdded};
 ghost use Rattle.designs.specs.Results.{on_ok};
 
 use super::Design;
-use crate::cell::Cells;
+use crate::cell::{Cells, cell_place};
 use crate::fault::{DesignFault, LinkFault};
 use crate::side::SideSize;
 use measures::link::Class;
 
+// A design starts from plain constant arrays, as a project rule asks.
 const NO_STRANDS: [u8; 576] = [0; 576];
 
 const ALL_ORDINARY: [Class; 576] = [Class::Ordinary; 576];
@@ -20,16 +21,6 @@ fn no_cells() -> Cells
     Cells {
         strands: NO_STRANDS,
         classes: ALL_ORDINARY,
-    }
-}
-
-fn either_class(x: Class, y: Class) -> Class
-    ensures { result ≡ either_class x y }
-{
-    if x.is_trunk() || y.is_trunk() {
-        Class::Trunk
-    } else {
-        Class::Ordinary
     }
 }
 
@@ -82,9 +73,9 @@ impl Design {
         ensures state { grid_of self.new ≡ with_link (grid_of self.old) left right strands class }
         ensures added { LinkAdded (grid_of self.old) left right strands class (grid_of self.new) }
     {
-        let at = left as usize * 24 + right as usize;
+        let at = cell_place(left, right);
         self.cells.strands[at] += strands;
-        self.cells.classes[at] = either_class(self.cells.classes[at], class);
+        self.cells.classes[at] = self.cells.classes[at].either(class);
     }
 
     // Puts a link in, and answers its class: its cell gets the strands added, and is trunk if either link is. The class comes

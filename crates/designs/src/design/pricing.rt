@@ -41,7 +41,8 @@ impl Design {
         )
     }
 
-    // The cost of a drawing with these rows, and what is counted in it.
+    // The cost of a drawing with these rows, and what is counted in it. What is proved of it by hand stands here, and not in
+    // the public function.
     fn cost_of_rows<M: Measure>(&self, left: &Row, right: &Row) -> M::Amount
         ensures value { result ≡ cost M.Amount.Amount.kind M.Measure.priced (cell_in (grid_of self.now)) (row_of left.now) (row_of right.now) }
         ensures counted { CountedOnce (cell_in (grid_of self.now)) (row_of left.now) (row_of right.now) }

@@ -2,7 +2,7 @@ ghost use Rattle.std.specs.Prelude.{◌≡◌, ℕ, ◌<◌, ◌≤◌};
 ghost use Rattle.designs.specs.Grids.{grid_of, cell_in};
 
 use super::Design;
-use crate::cell::Cell;
+use crate::cell::{Cell, cell_place};
 use crate::side::SideSize;
 
 impl Design {
@@ -38,7 +38,7 @@ impl Design {
         requires right { right < 24 }
         ensures { result ≡ cell_in (grid_of self.now) left right }
     {
-        let at = left as usize * 24 + right as usize;
+        let at = cell_place(left, right);
         Cell {
             strands: self.cells.strands[at],
             class: self.cells.classes[at],

@@ -11,22 +11,20 @@ use crate::fault::RowFault;
 use crate::row::Row;
 use crate::side::SideSize;
 
-// Reads two rows of these sizes from 48 bytes.
+// Reads two rows of these sizes from 48 bytes. The sizes stay two parameters, left before right as everywhere: a struct of
+// the two would be opened in each function that takes it.
 fn read_rows(bytes: &[u8], lefts: SideSize, rights: SideSize) -> Result<Drawing, RowFault>
     requires { length bytes.now ≡ 48 }
     ensures { on_ok rows_of result ≡ rows_in lefts.count rights.count bytes.now }
 {
     let (left, right) = bytes.split_at(24);
-    let Some(left) = Row::read(left, lefts) else {
-        return Err(RowFault::LeftRow);
-    };
-    let Some(right) = Row::read(right, rights) else {
-        return Err(RowFault::RightRow);
-    };
+    let left = Row::read(left, lefts).ok_or(RowFault::LeftRow)?;
+    let right = Row::read(right, rights).ok_or(RowFault::RightRow)?;
     Ok(Drawing { left, right })
 }
 
-// The drawing with these rows, if they are orders of so many switches.
+// The drawing with these rows, if they are orders of so many switches. What is proved of it by hand stands here, and not in
+// the public function.
 fn with_rows(left: &[u8], right: &[u8], lefts: SideSize, rights: SideSize) -> Option<Drawing>
     ensures value { option_map rows_of result ≡ (if is_order lefts.count left.now && is_order rights.count right.now then Some (record { left = left.now; right = right.now }) else None) }
     ensures meaning { (Decides (is_order lefts.count left.now) (Order lefts.count left.now)) × (Decides (is_order rights.count right.now) (Order rights.count right.now)) }

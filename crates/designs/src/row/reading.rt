@@ -34,25 +34,27 @@ fn filled(names: &[u8]) -> [u8; 24]
     bytes
 }
 
-// So many switches in number order, filled up with 255 to 24 bytes.
+// So many switches in number order, filled up with 255 to 24 bytes. Tried by `zip` with the numbers: after another adapter
+// of `iter_mut` nothing is known of the bytes.
 fn numbers(count: u8) -> [u8; 24]
     requires { count ≤ 24 }
     ensures { result ≡ number_order count ++ replicate (24 - count) 255 }
 {
     let mut bytes = [FILLER; 24];
-    for (k, byte) in bytes[..count as usize].iter_mut().enumerate() {
+    for (k, byte) in bytes[..usize::from(count)].iter_mut().enumerate() {
         *byte = k as u8;
     }
     bytes
 }
 
 impl Row {
-    // The switches in their order.
+    // The switches in their order. That they are below 24 is said where a type hands them out, here and in the lists of
+    // partial drawings, and asked only where a bare slice is taken.
     pub fn switches(&self) -> &[u8]
         ensures list { result.now ≡ row_of self.now }
         ensures below { All (λ a. a < 24) result.now }
     {
-        &self.switches[..self.size.count as usize]
+        &self.switches[..usize::from(self.size.count)]
     }
 
     // Reads a row of `size` switches from 24 bytes; none where they are not an order of them and then 255s.
@@ -61,7 +63,7 @@ impl Row {
         ensures value { MatchOption result (is_row size.count bytes.now ≡ false) (λ row. (is_row size.count bytes.now ≡ true) × (row.size.count ≡ size.count) × (row.switches ≡ bytes.now)) }
         ensures meaning { Decides (is_row size.count bytes.now) (RowBytes size.count bytes.now) }
     {
-        let (names, rest) = bytes.split_at(size.count as usize);
+        let (names, rest) = bytes.split_at(usize::from(size.count));
         if !names_each_once(names) || !is_filler(rest) {
             return None;
         }
@@ -74,7 +76,7 @@ impl Row {
     pub(crate) fn of(names: &[u8], size: SideSize) -> Option<Row>
         ensures { option_map row_of result ≡ (if is_order size.count names.now then Some names.now else None) }
     {
-        if names.len() != size.count as usize {
+        if names.len() != usize::from(size.count) {
             return None;
         }
         Row::read(&filled(names), size)

@@ -15,7 +15,7 @@ impl<const N: usize> Names<N> {
         }
     }
 
-    // The switches in their order.
+    // The switches in their order. A node's two lists hand on what is said here.
     pub fn as_slice(&self) -> &[u8]
         ensures list { result.now ≡ names_of self.now }
         ensures below { All (λ a. a < 24) result.now }

@@ -18,7 +18,7 @@ impl Node {
         ensures { partial_of result ≡ record { placed = put_at place (length (partial_of self.now).placed) (partial_of self.now).placed; prefix = [] } }
     {
         let mut left = self.left;
-        left.insert(place as usize, self.left().len() as u8);
+        left.insert(usize::from(place), self.left().len() as u8);
         Node {
             left,
             right: Names::new(),
@@ -39,7 +39,8 @@ impl Node {
         }
     }
 
-    // The next left switch at the last place but so many.
+    // The next left switch at the last place but so many. That few places have a child is handed on by each step: a walk
+    // counts the children it took in a byte.
     fn with_left(&self, at: u8) -> Option<Node>
         requires { length (partial_of self.now).placed < 24 }
         ensures child { option_map partial_of result ≡ nth (placings (length (partial_of self.now).placed) (length (partial_of self.now).placed) (partial_of self.now).placed) at }
@@ -54,7 +55,10 @@ impl Node {
     fn nth_unplaced(&self, design: &Design, at: u8) -> Option<u8>
         ensures { MatchOption result (length (unplaced (grid_of design.now) (partial_of self.now)) ≤ at) (λ v. (at < length (unplaced (grid_of design.now) (partial_of self.now))) × (v ≡ slice_index (unplaced (grid_of design.now) (partial_of self.now)) at)) }
     {
-        self.unplaced(design).as_slice().get(at as usize).copied()
+        self.unplaced(design)
+            .as_slice()
+            .get(usize::from(at))
+            .copied()
     }
 
     // That switch added to the prefix.
@@ -72,7 +76,7 @@ impl Node {
         ensures child { option_map partial_of result ≡ nth (children (grid_of design.now) (partial_of self.now)) at }
         ensures few { OnSome result (at < 48) }
     {
-        if self.left().len() < design.left_size() as usize {
+        if self.left().len() < usize::from(design.left_size()) {
             self.with_left(at)
         } else {
             self.with_right(design, at)

@@ -40,8 +40,8 @@ impl Node {
         self.right.as_slice()
     }
 
-    // The right switches that are not in the prefix, lowest number first. They are added to fixed memory, so nothing can
-    // collect them.
+    // The right switches that are not in the prefix, lowest number first. A loop and no `collect`, for which `Names` would
+    // need a FromIterator with a law for this one place.
     pub fn unplaced(&self, design: &Design) -> Names<24>
         ensures { names_of result ≡ unplaced (grid_of design.now) (partial_of self.now) }
     {

@@ -2,7 +2,7 @@ ghost use Rattle.std.specs.Prelude.{◌≡◌, length, OnErr};
 ghost use Rattle.sessions.specs.Calls.{called};
 ghost use Rattle.scripts.specs.Scripts.{read_command, next_byte};
 ghost use Rattle.sessions.specs.Stages.{stage_of, set};
-ghost use Rattle.sessions.specs.Texts.{answer_line, if_room, written_on};
+ghost use Rattle.sessions.specs.Texts.{answer_line, if_room, Writes};
 
 use super::{Condition, MeasuredSession};
 use crate::telling::{LineReply, Reply};
@@ -22,7 +22,8 @@ impl<M: Measure, R: Drop> MeasuredSession<M, R> {
         }
     }
 
-    // Carries out the command at a byte of the script, for a line with this much room.
+    // Carries out the command at a byte of the script, for a line with this much room. The three stay parameters, as in a
+    // session's call.
     pub fn call(&mut self, script: &[u8], place: usize, room: usize) -> Reply<M>
         ensures told { result.told ≡ (called M.Amount.Amount.kind M.Measure.priced (stage_of self.old.condition) script.now place room).told }
         ensures next { result.next ≡ next_byte script.now place (read_command script.now place room) }
@@ -48,8 +49,7 @@ impl<P: PrintingMeasure, R: Drop> MeasuredSession<P, R> {
     pub fn call_on_line(&mut self, script: &[u8], place: usize, line: &mut [u8]) -> LineReply<P>
         ensures told { result.reply.told ≡ (called P.Amount.Amount.kind P.Measure.priced (stage_of self.old.condition) script.now place (length line.old)).told }
         ensures next { result.reply.next ≡ next_byte script.now place (read_command script.now place (length line.old)) }
-        ensures wrote { result.wrote ≡ length (if_room (length line.old) (answer_line P.PrintingMeasure.written result.reply.told)) }
-        ensures bytes { line.new ≡ written_on line.old (if_room (length line.old) (answer_line P.PrintingMeasure.written result.reply.told)) }
+        ensures writes { Writes line.old line.new result.wrote (if_room (length line.old) (answer_line P.PrintingMeasure.written result.reply.told)) }
         ensures stage { stage_of self.new.condition ≡ (called {M = P} P.Amount.Amount.kind P.Measure.priced (stage_of self.old.condition) script.now place (length line.old)).stage }
         ensures refused { OnErr result.reply.told (self.new ≡ self.old) }
         ensures rule { self.new.rule ≡ self.old.rule }

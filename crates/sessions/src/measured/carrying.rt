@@ -12,7 +12,8 @@ use measures::measure::Measure;
 use scripts::fault::{ScriptFault, SearchFault, at_place};
 
 impl<M: Measure, R: Drop> MeasuredSession<M, R> {
-    // Carries out a command that has all its operands.
+    // Carries out a command that has all its operands. They are taken by place: a slice pattern would need an else that is
+    // never reached. That a refusal changes nothing, and no call the rule, is promised by each call for itself.
     pub(super) fn carry_out(
         &mut self,
         letter: char,

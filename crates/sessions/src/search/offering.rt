@@ -4,9 +4,9 @@ ghost use Rattle.designs.specs.Readings.{rows_of};
 ghost use Rattle.sessions.specs.Stages.{stage_searching, closed, offered_stage, is_better};
 
 use super::Search;
+use designs::best::first_best;
 use designs::design::Design;
 use designs::drawing::Drawing;
-use measures::amount::Amount;
 use measures::measure::Measure;
 
 impl<M: Measure> Search<M> {
@@ -14,25 +14,15 @@ impl<M: Measure> Search<M> {
     pub fn start(design: Design) -> Search<M>
         ensures { stage_searching result ≡ closed M.Amount.Amount.kind M.Measure.priced (grid_of design) }
     {
-        let incumbent = Drawing::in_number_order(&design);
-        let cost = design.cost::<M>(&incumbent);
-        Search {
-            design,
-            incumbent,
-            cost,
-        }
+        let best = first_best::<M>(&design);
+        Search { design, best }
     }
 
     // Takes an offered drawing if it costs less than the best; answers whether it does.
     pub fn offer(&mut self, drawing: Drawing, cost: M::Amount) -> bool
-        ensures taken { result ≡ is_better M.Amount.Amount.kind self.old.cost cost }
-        ensures stage { stage_searching self.new ≡ offered_stage M.Amount.Amount.kind (grid_of self.old.design) (rows_of self.old.incumbent) self.old.cost (rows_of drawing) cost }
+        ensures taken { result ≡ is_better M.Amount.Amount.kind self.old.best.cost cost }
+        ensures stage { stage_searching self.new ≡ offered_stage M.Amount.Amount.kind (grid_of self.old.design) (rows_of self.old.best.drawing) self.old.best.cost (rows_of drawing) cost }
     {
-        if self.cost.is_at_most(cost) {
-            return false;
-        }
-        self.incumbent = drawing;
-        self.cost = cost;
-        true
+        self.best.take(drawing, cost)
     }
 }

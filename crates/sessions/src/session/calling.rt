@@ -2,7 +2,7 @@ ghost use Rattle.std.specs.Prelude.{◌≡◌, ◌<◌, ◌≤◌, length, Some,
 ghost use Rattle.designs.specs.Results.{on_ok};
 ghost use Rattle.scripts.specs.Scripts.{read_command, next_byte};
 ghost use Rattle.sessions.specs.Sessions.{whole_of, set_up, placed_set_up, outcome};
-ghost use Rattle.sessions.specs.Texts.{if_room, refusal_line, written_on};
+ghost use Rattle.sessions.specs.Texts.{if_room, refusal_line, Writes};
 
 use super::{Answer, Session};
 use crate::measured::MeasuredSession;
@@ -42,8 +42,7 @@ fn set_up_at(measure: u8, rule: u8, place: usize) -> Result<Session, ScriptFault
 fn refuse(line: &mut [u8], fault: ScriptFault, next: usize) -> Answer
     ensures refused { result.refused ≡ Some fault }
     ensures next { result.next ≡ next }
-    ensures wrote { result.wrote ≡ length (if_room (length line.old) (refusal_line fault)) }
-    ensures bytes { line.new ≡ written_on line.old (if_room (length line.old) (refusal_line fault)) }
+    ensures writes { Writes line.old line.new result.wrote (if_room (length line.old) (refusal_line fault)) }
 {
     let wrote = write_refusal(line, fault);
     Answer {
@@ -66,8 +65,7 @@ impl Session {
     pub fn call(&mut self, script: &[u8], place: usize, line: &mut [u8]) -> Answer
         ensures refused { result.refused ≡ (outcome (whole_of self.old) script.now place (length line.old)).refused }
         ensures next { result.next ≡ next_byte script.now place (read_command script.now place (length line.old)) }
-        ensures wrote { result.wrote ≡ length (if_room (length line.old) (outcome (whole_of self.old) script.now place (length line.old)).bytes) }
-        ensures bytes { line.new ≡ written_on line.old (if_room (length line.old) (outcome (whole_of self.old) script.now place (length line.old)).bytes) }
+        ensures writes { Writes line.old line.new result.wrote (if_room (length line.old) (outcome (whole_of self.old) script.now place (length line.old)).bytes) }
         ensures session { whole_of self.new ≡ (outcome (whole_of self.old) script.now place (length line.old)).session }
         ensures kept { OnSome result.refused (self.new ≡ self.old) }
         ensures forward { place < length script.now → 256 ≤ length line.old → place < result.next }

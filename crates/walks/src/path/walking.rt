@@ -37,7 +37,8 @@ impl<A: Amount> Path<A> {
         });
     }
 
-    // Takes the first open node. Where no child of a level is left, the walk goes back one level.
+    // Takes the first open node. The next child is an Option taken apart by let else, otherwise the walk goes back one level,
+    // as a project rule asks.
     pub(crate) fn next(&mut self) -> Option<Waiting<A>>
         ensures taken { MatchOption result ((frontier_of self.old ≡ []) × (frontier_of self.new ≡ [])) (λ o. frontier_of self.old ≡ record { node = partial_of o.node; inherited = o.inherited } ∷ frontier_of self.new) }
         ensures deep { IfSome result (λ o. MayFollow self.new o.node) }

@@ -7,23 +7,19 @@ ghost use Rattle.walks.specs.Walk.{offer};
 use super::Search;
 use crate::offered::Offered;
 use designs::drawing::Drawing;
-use measures::amount::Amount;
 use measures::measure::Measure;
 
 impl<M: Measure> Search<M> {
-    // Takes a drawing if it costs less than the best. What offer promises beyond this is proved by hand.
+    // Takes a drawing if it costs less than the best. Tried as one body with `offer`: what that promises beyond this is
+    // proved by hand, and then not found.
     pub(super) fn take_better(&mut self, drawing: Drawing) -> Offered<M::Amount>
         ensures goes { GoesTo self.old self.new (offer M.Amount.Amount.kind (cost_in self.old) (rows_of drawing) (walk_of self.old)) }
         ensures cost { result.cost ≡ cost_in self.old (rows_of drawing) }
-        ensures taken { result.taken ≡ not (M.Amount.Amount.kind.at_most self.old.least result.cost) }
+        ensures taken { result.taken ≡ not (M.Amount.Amount.kind.at_most self.old.best.cost result.cost) }
     {
         let cost = self.path.design.cost::<M>(&drawing);
-        if self.least.is_at_most(cost) {
-            return Offered { taken: false, cost };
-        }
-        self.incumbent = drawing;
-        self.least = cost;
-        Offered { taken: true, cost }
+        let taken = self.best.take(drawing, cost);
+        Offered { taken, cost }
     }
 
     // An offered drawing becomes the best if it costs less.

@@ -22,7 +22,8 @@ fn greater_of<A: Amount>(x: A, y: A) -> A
 }
 
 impl<M: Measure> Search<M> {
-    // The drawing that a node is, if it is a whole one. What is proved by hand of a visit stands here.
+    // The drawing that a node is, if it is a whole one. Tried within `visit`: these two clauses are proved by hand, and then
+    // not found.
     fn whole(&self, node: &Node) -> Option<Drawing>
         requires { MayFollow self.now.path node.now }
         ensures drawing { MatchOption result (is_whole (grid_in self.now) (partial_of node.now) ≡ false) (λ x. (is_whole (grid_in self.now) (partial_of node.now) ≡ true) × (rows_of x ≡ drawn (partial_of node.now))) }
@@ -36,7 +37,7 @@ impl<M: Measure> Search<M> {
         requires { MayFollow self.old.path node }
         ensures { GoesTo self.old self.new (visit M.Amount.Amount.kind (grid_in self.old) (cost_in self.old) bound (partial_of node) (walk_of self.old)) }
     {
-        if self.least.is_at_most(bound) {
+        if self.best.cost.is_at_most(bound) {
             return;
         }
         let Some(drawing) = self.whole(&node) else {

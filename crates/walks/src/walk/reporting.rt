@@ -22,14 +22,14 @@ impl<M: Measure> Search<M> {
     fn floor(&self) -> M::Amount
         ensures { result ≡ lower_bound M.Amount.Amount.kind (walk_of self.now) }
     {
-        self.path.least_bound(self.least)
+        self.path.least_bound(self.best.cost)
     }
 
     // Whether nothing better exists.
     pub(super) fn is_done(&self) -> bool
         ensures { result ≡ is_done M.Amount.Amount.kind (walk_of self.now) }
     {
-        self.least.is_at_most(self.floor())
+        self.best.cost.is_at_most(self.floor())
     }
 
     // What is known so far.
@@ -39,12 +39,12 @@ impl<M: Measure> Search<M> {
     {
         let floor = self.floor();
         Report {
-            done: self.least.is_at_most(floor),
+            done: self.best.cost.is_at_most(floor),
             opened: self.opened,
-            cost: self.least,
+            cost: self.best.cost,
             floor,
             size: tree_size(&self.path.design),
-            drawing: self.incumbent,
+            drawing: self.best.drawing,
         }
     }
 }

@@ -17,7 +17,8 @@ const MOST_ASKED: u32 = 1_000_000;
 const MOST_OPENED: u32 = 1_000_000_000;
 
 impl<M: Measure> Search<M> {
-    // The opening of a run, once its limits are kept. What run promises beyond this is proved by hand.
+    // The opening of a run, once its limits are kept: a loop left by its label with the nodes opened, as a project rule asks.
+    // Tried as one body with `run`: what that promises beyond these steps is proved by hand, and then not found.
     fn run_for<R: BoundingRule<M>>(&mut self, rule: &R, nodes: u32) -> u32
         requires { self.old.opened + nodes ≤ 1000000000 }
         ensures goes { GoesTo self.old self.new (run M.Amount.Amount.kind (grid_in self.old) (cost_in self.old) (R.BoundingRule.answered rule.now (grid_in self.old)) nodes (walk_of self.old)) }

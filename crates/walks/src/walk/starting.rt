@@ -5,8 +5,8 @@ ghost use Rattle.walks.specs.Moves.{Started};
 
 use super::Search;
 use crate::path::Path;
+use designs::best::first_best;
 use designs::design::Design;
-use designs::drawing::Drawing;
 use measures::amount::Amount;
 use measures::measure::Measure;
 use partials::node::Node;
@@ -18,18 +18,16 @@ impl<M: Measure> Search<M> {
     pub fn start<R: BoundingRule<M>>(design: Design, rule: &R) -> Search<M>
         ensures { Started (grid_of design) (R.BoundingRule.answered rule.now) nothing_placed (first_rows (grid_of design)) result }
     {
-        let first = Drawing::in_number_order(&design);
-        let cost = design.cost::<M>(&first);
+        let best = first_best::<M>(&design);
         let root = Node::root();
         let bound = rule.answer(&design, &root);
         let mut path = Path::new(design);
-        if !cost.is_at_most(bound) {
+        if !best.cost.is_at_most(bound) {
             path.push(root, bound);
         }
         Search {
             path,
-            incumbent: first,
-            least: cost,
+            best,
             opened: 0,
         }
     }

@@ -1,6 +1,6 @@
-use Rattle.std.proofs.Common.{◌+◌, ◌-◌, ◌<◌, arith}
-use Rattle.partials.specs.Sizes.{left_size}
-use Rattle.partials.proofs.Capped.{left_step, level_none, level_over, level_some}
+use Rattle.std.proofs.Common.{◌+◌, ◌-◌, ◌*◌, ◌<◌, ap, ◌∙◌, arith}
+use Rattle.partials.specs.Sizes.{left_size, unless_above}
+use Rattle.partials.proofs.Capped.{left_step, level_none, level_more}
 use Rattle.partials.proofs.size.+left_size.Goals as goal
 
 pub returns-in_err-below : goal.returns-in_err-below
@@ -11,18 +11,11 @@ returns-in_err-below t c =
     let p : 0 < d = omega arith in
     rw c.from_residual.ensures (level_none (k + 1) (left_size m (k + 1) (d - 1)) (left_size m k d) (omega arith) (left_step m k d p) c.in_err-below.ensures)
 
-pub returns-then-size-gt-CEILING : goal.returns-then-size-gt-CEILING
-returns-then-size-gt-CEILING t c =
+pub returns : goal.returns
+returns t c =
     let d = c.args.unplaced in
     let k = c.args.placed in
     let m = c.args.rights in
     let p : 0 < d = omega arith in
-    level_over (k + 1) (left_size m (k + 1) (d - 1)) (left_size m k d) (omega arith) (left_step m k d p) c.in_ok-below.below c.in_ok-below.ensures (omega arith)
-
-pub returns-else-size-gt-CEILING : goal.returns-else-size-gt-CEILING
-returns-else-size-gt-CEILING t c =
-    let d = c.args.unplaced in
-    let k = c.args.placed in
-    let m = c.args.rights in
-    let p : 0 < d = omega arith in
-    level_some (k + 1) (left_size m (k + 1) (d - 1)) (left_size m k d) (omega arith) (left_step m k d p) c.in_ok-below.below c.in_ok-below.ensures (omega arith)
+    c.unless_above.ensures ∙ (ap (λ f. unless_above ((f + 1) * (1 + c.in_ok-below.below))) c.from.ensures
+    ∙ level_more (k + 1) (left_size m (k + 1) (d - 1)) (left_size m k d) (omega arith) (left_step m k d p) c.in_ok-below.below c.in_ok-below.ensures)

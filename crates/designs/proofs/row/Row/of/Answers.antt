@@ -1,4 +1,4 @@
-use Rattle.std.proofs.Common.{◌≡◌, ℕ, ◌-◌, true, false, cond, List, ◌++◌, length, replicate, Some, None, Option, MatchOption}
+use Rattle.std.proofs.Common.{◌≡◌, ◌∙◌, ℕ, ◌-◌, true, false, cond, List, ◌++◌, length, replicate, Some, None, Option, MatchOption}
 use Rattle.std.proofs.lemmas.List.{take_at}
 use Rattle.std.specs.Option.{option_map}
 use Rattle.designs.specs.Readings.{row_of}
@@ -19,4 +19,4 @@ found n m xs bs (Some x) l e h =
 pub returns : goal.returns
 returns c =
     let xs = c.args.names.now in
-    found c.args.size.count (24 - length xs) xs c.filled.result c.read.result c.if-names-size.false c.filled.ensures c.read.ensures.value
+    found c.args.size.count (24 - length xs) xs c.filled.result c.read.result (c.if-names-from.false ∙ c.from.ensures) c.filled.ensures c.read.ensures.value
