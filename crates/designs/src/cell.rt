@@ -4,7 +4,8 @@ ghost use Rattle.designs.specs.Cells.{link_in, index};
 use measures::link::{Class, Link};
 
 // What stands between a left and a right switch: no strands, or one link. No strands with class ordinary is a value of its
-// own by a project rule; an `Option<Link>` would still have links of no strands to rule out.
+// own by a project rule; an `Option<Link>` would still have links of no strands to rule out. It has the fields of a Link, but
+// may have no link where a Link is one, so what prices links is not called with a cell by mistake.
 #[derive(Clone, Copy)]
 pub struct Cell {
     pub strands: u8,
@@ -24,7 +25,8 @@ impl From<Cell> for Link {
 }
 
 // A cell for each of 24 left with each of 24 right switches: left switch a and right switch b have place 24 a + b.
-// Two arrays and not one of cells: a project rule has designs start from plain constant arrays of 576 elements.
+// Two arrays and not one of cells: a project rule has a design's plain inner record start from constant arrays, more than
+// one, of 576 elements each.
 #[derive(Clone, Copy)]
 pub struct Cells {
     pub strands: [u8; 576],

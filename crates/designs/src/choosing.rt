@@ -11,7 +11,8 @@ use crate::fault::{Layer, Placed, RowFault, at_place};
 use measures::amount::Amount;
 use measures::measure::Measure;
 
-// Why a part is no drawing of the design. A part's layer and number are those of its cause, which no discriminant can say.
+// Why a part is no drawing of the design. A variant that holds a row's fault has that fault's number, which no discriminant
+// can say; layers are the format's. It is told by number, layer and place: so it has no Display.
 #[derive(Clone, Copy, PartialEq, Eq, Debug)]
 pub enum PartFault {
     Length,

@@ -13,7 +13,7 @@ pub enum Comparison {
     More,
 }
 
-// Compares two amounts of one measure.
+// Compares two amounts of one measure. An amount has no Ord, only the question, so it is asked both ways.
 pub fn compare<M: Measure>(first: M::Amount, second: M::Amount) -> Comparison
     ensures { result ≡ compared M.Amount.Amount.kind first second }
 {

@@ -14,8 +14,8 @@ pub enum Layer {
     Search,
 }
 
-// Why a link is refused, and the number of each refusal. Each fault says its own number, by the enum's own rule, and is told
-// by number, layer and place: so there is no trait of numbers, and no Display.
+// Why a link is refused, and the number of each refusal. Each fault says its own number: `as` takes no type parameter, so a
+// trait would have this body again in each impl. It is told by number, layer and place: so it has no Display.
 #[derive(Clone, Copy, PartialEq, Eq, Debug)]
 pub enum LinkFault {
     UnknownSwitch = 9,
@@ -41,7 +41,7 @@ impl From<UnknownClass> for LinkFault {
 }
 
 // Why a design, or a link in it, is refused. A variant that holds a fault has that fault's number, which no discriminant
-// can say.
+// can say. No Display, as above.
 #[derive(Clone, Copy, PartialEq, Eq, Debug)]
 pub enum DesignFault {
     Size,
@@ -67,8 +67,8 @@ impl From<LinkFault> for DesignFault {
     }
 }
 
-// Which row of a drawing is no order of its side's switches and then 255s, and the number of the refusal: no Display, as
-// above.
+// Which row of a drawing is no order of its side's switches and then 255s, and the number of the refusal: no trait of
+// numbers and no Display, as above.
 #[derive(Clone, Copy, PartialEq, Eq, Debug)]
 pub enum RowFault {
     LeftRow = 15,

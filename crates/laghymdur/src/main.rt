@@ -7,6 +7,7 @@ use std::io::{Read, Write};
 
 // Reads a script, one byte more than the longest at most, so that a longer one is seen to be too long.
 fn read_script(rt: &HostRuntime) -> io::Result<Vec<u8>> {
+    // A cast, as there is no `From<usize>` for u64.
     let most = LONGEST as u64 + 1;
     let mut script = Vec::new(rt.alloc());
     rt.stdin().take(most).read_to_end(&mut script)?;

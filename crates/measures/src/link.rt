@@ -9,7 +9,7 @@ pub enum Class {
     Trunk = 1,
 }
 
-// A number that names no class.
+// A number that names no class. It is carried into a fault that is told by its number, so it has no Display.
 #[derive(Clone, Copy, PartialEq, Eq, Debug)]
 pub struct UnknownClass;
 
@@ -43,7 +43,8 @@ impl Class {
     }
 }
 
-// What a crossing is priced by: how many strands a link has, and its class.
+// What a crossing is priced by: how many strands a link has, and its class. A cell of a design may have no link and a Link is
+// one, so a type of its own keeps what prices links from being called with a cell by mistake.
 #[derive(Clone, Copy)]
 pub struct Link {
     pub strands: u8,

@@ -14,8 +14,8 @@ use designs::design::Design;
 use measures::amount::Amount;
 use measures::measure::Measure;
 
-// Rule 1: the known price of every settled pair. It is a type, as is rule 2, for a walk that has one rule alone; the enum
-// below chooses by a number.
+// Rule 1: the known price of every settled pair. It and rule 2 are public types of their own, for a user whose walk has one
+// rule; nothing here makes one. The enum below chooses by a number.
 #[derive(Clone, Copy)]
 pub struct SettledPairs;
 
@@ -50,7 +50,7 @@ pub enum Rule {
     Lesser,
 }
 
-// A number that names no rule.
+// A number that names no rule. It is carried into a fault that is told by its number, so it has no Display.
 #[derive(Clone, Copy, PartialEq, Eq, Debug)]
 pub struct UnknownRule;
 

@@ -4,6 +4,7 @@ pub mod listing;
 
 // At most N switches of one side in a row. Memory is fixed, as no call uses the heap, and a node is copied, which vectors of
 // fixed capacity cannot be: so the count stands beside the array. A row of a drawing is no list of this kind: it keeps 255s.
+// N is 24 at each use; written out, it would stand beside the 24 of `below`, which is another limit.
 #[derive(Clone, Copy)]
 pub struct Names<const N: usize> {
     names: [u8; N],

@@ -22,7 +22,8 @@ pub fn lesser_of<A: Amount>(x: A, y: A) -> A
 }
 
 // The known price of right switches u before v, of a pair's two prices, which a project rule has given together. Design and
-// node stay two parameters: a struct of the two would stand in every clause with one name more to read through.
+// node stay two parameters: a struct of the two would stand in every clause with one name more to read through. Switches are
+// bytes here too, as `Design::cell` says.
 fn known<M: Measure>(design: &Design, node: &Node, u: u8, v: u8) -> M::Amount
     requires first { u < 24 }
     requires second { v < 24 }

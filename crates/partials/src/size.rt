@@ -7,8 +7,7 @@ ghost use Rattle.partials.specs.Tree.{nodes_below};
 
 use designs::design::Design;
 
-// The largest size of a tree that is told. The sizes are plain recursive functions, as a project rule asks, and the two are
-// no twins: one counts places to put a switch in, the other switches left over.
+// The largest size of a tree that is told.
 const CEILING: u64 = 1_000_000_000;
 
 // A size, unless it is above the ceiling.
@@ -18,7 +17,8 @@ fn unless_above(size: u64) -> Option<u64>
     (size <= CEILING).then_some(size)
 }
 
-// The nodes below a full left row with so many right switches unplaced.
+// The nodes below a full left row with so many right switches unplaced. It and the next are plain recursive functions, as a
+// project rule asks, and no twins: this one counts switches left over, the next places to put a switch in.
 fn right_size(unplaced: u8) -> Option<u64>
     ensures { result ≡ unless_above (right_size unplaced) }
 {
@@ -42,7 +42,7 @@ fn left_size(rights: u8, placed: u8, unplaced: u8) -> Option<u64>
 }
 
 // The size of the tree of a design with these sizes. What is proved of it by hand stands here, and not in the public
-// function.
+// function. The cast stays: the check proves that nothing is lost, and TryFrom would add a branch that never comes.
 fn size_of(lefts: u8, rights: u8) -> Option<u32>
     requires { lefts ≤ 24 }
     ensures size { result ≡ unless_above (tree_size lefts rights) }

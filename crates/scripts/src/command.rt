@@ -31,7 +31,8 @@ fn operand_width(letter: char) -> Option<usize>
     }
 }
 
-// Reads the command at a byte of the script, for a line with this much room. The three stay parameters, as in every call.
+// Reads the command at a byte of the script, for a line with this much room. The three stay parameters: each call brings
+// another place, and a struct would be taken apart at once.
 pub fn read_command(script: &[u8], place: usize, room: usize) -> Result<Command, ScriptFault>
     ensures value { result ≡ read_command script.now place room }
     ensures place { IfOk result (λ c. c.place ≡ place) }

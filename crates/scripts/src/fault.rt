@@ -8,14 +8,16 @@ use designs::fault::{DesignFault, Layer, RowFault};
 pub use designs::fault::{Placed, at_place};
 use partials::delivered::UnknownRule;
 
-// Why a choice of measure and rule is refused, and the number of each refusal.
+// Why a choice of measure and rule is refused, and the number of each refusal. Told by its number, so no Display; and no
+// trait of numbers, as `as` takes no type parameter.
 #[derive(Clone, Copy, PartialEq, Eq, Debug)]
 pub enum SetupFault {
     UnknownMeasure = 6,
     UnknownRule = 7,
 }
 
-// Why a command to a search is refused.
+// Why a command to a search is refused. Its number is that of the fault it holds, which no discriminant can say; told by
+// number, layer and place, so no Display.
 #[derive(Clone, Copy, PartialEq, Eq, Debug)]
 pub enum SearchFault {
     InRow(RowFault),
@@ -110,7 +112,7 @@ impl ScriptFault {
         }
     }
 
-    // The layer that refused.
+    // The layer that refused. Layers are the format's, and more than one variant has the script's.
     pub fn layer(&self) -> Layer
         ensures { result ≡ layer_of self.now }
     {
@@ -122,7 +124,8 @@ impl ScriptFault {
         }
     }
 
-    // The byte of the script that was given to the call; 0 for a script that is too long.
+    // The byte of the script that was given to the call; 0 for a script that is too long. Each variant holds its place, as a
+    // project rule nests them; only `LongScript` has none.
     pub fn place(&self) -> usize
         ensures { result ≡ place_of self.now }
     {

@@ -23,6 +23,7 @@ fn layer_name(layer: Layer) -> &'static str
     }
 }
 
+// The flag of an offer as its word; the cost is told either way, so no enum holds the two.
 fn offer_word(taken: bool) -> &'static str
     ensures word { result.now ≡ offer_word taken }
     ensures short { length result.now ≤ 5 }
@@ -59,7 +60,8 @@ fn telling_text<P: PrintingMeasure>(telling: &Telling<P>) -> ArrayString<LINE>
     text
 }
 
-// Copies a text to the line's start, unless the line is too short, and answers how many bytes it wrote.
+// Copies a text to the line's start, unless the line is too short, and answers how many bytes it wrote. `Writes` speaks of
+// the line before and after, which no type can say.
 fn write_text(line: &mut [u8], text: &ArrayString<LINE>) -> usize
     ensures writes { Writes line.old line.new result (if_room (length line.old) text.now.bytes) }
 {

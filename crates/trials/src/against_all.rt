@@ -1,4 +1,4 @@
-use crate::plain::{PlainLink, Price, Rows, Seed, all_rows, design, first_rows, order, size_of};
+use crate::plain::{PlainLink, Price, Rows, Seed, Sizes, count, order};
 use crate::seen::{Key, Keyed, Seen, see};
 use designs::design::Design;
 use designs::drawing::Drawing;
@@ -22,13 +22,6 @@ struct Met {
     taken: u32,
     kept: u32,
     tied: u32,
-}
-
-// One more, if this was met.
-fn count(number: &mut u32, met: bool) {
-    if met {
-        *number = number.wrapping_add(1);
-    }
 }
 
 impl Met {
@@ -59,29 +52,29 @@ struct Trial {
     heap: Global,
     design: Design,
     links: Vec<PlainLink>,
-    lefts: u8,
-    rights: u8,
+    sizes: Sizes,
     prices: Vec<Price>,
 }
 
 impl Trial {
     // One to four switches a side, a single one less often.
     fn new(heap: Global, seed: &mut Seed) -> Result<Trial, Fail> {
-        let lefts = seed.below(7).wrapping_add(3) / 2;
-        let rights = seed.below(7).wrapping_add(3) / 2;
+        let sizes = Sizes {
+            left: seed.below(7).wrapping_add(3) / 2,
+            right: seed.below(7).wrapping_add(3) / 2,
+        };
         let chance = seed.below(8).wrapping_add(1);
-        let links = seed.links(heap, lefts, rights, chance)?;
-        let drawings = all_rows(heap, lefts, rights)?;
+        let links = seed.links(heap, sizes, chance)?;
+        let drawings = sizes.all_rows(heap)?;
         let prices = drawings
             .iter()
             .map(|rows| rows.cost(links.as_slice()))
             .collect(heap)?;
         Ok(Trial {
             heap,
-            design: design(lefts, rights, links.as_slice())?,
+            design: sizes.design(links.as_slice())?,
             links,
-            lefts,
-            rights,
+            sizes,
             prices,
         })
     }
@@ -92,7 +85,7 @@ impl Trial {
 
     // What the first report of a walk says, but for its floor and whether the walk is done.
     fn start<M: Keyed>(&self) -> Result<Seen, AllocError> {
-        let rows = first_rows(self.heap, self.lefts, self.rights)?;
+        let rows = self.sizes.first_rows(self.heap)?;
         Ok(Seen {
             done: false,
             opened: 0,
@@ -101,7 +94,7 @@ impl Trial {
                 first: 0,
                 second: 0,
             },
-            size: size_of(self.lefts, self.rights),
+            size: self.sizes.tree_size(),
             rows,
         })
     }
@@ -114,7 +107,8 @@ impl Trial {
 }
 
 // What is known of a walk from outside: its rule, the least cost of all drawings, the nodes that its runs answered, and
-// the last report. The walk is lent to each step: held here, for any measure, it is not found to fit into memory.
+// the last report; with what the trials draw and meet. The walk is lent to each step: held here, for any measure, it is
+// not found to fit into memory.
 #[derive(Drop)]
 struct Watch<'a> {
     trial: &'a Trial,
@@ -122,17 +116,26 @@ struct Watch<'a> {
     least: Key,
     opened: u32,
     last: Seen,
+    seed: &'a mut Seed,
+    met: &'a mut Met,
 }
 
 impl<'a> Watch<'a> {
     // What is known of a walk that is just started.
-    fn start<M: Keyed>(trial: &'a Trial, rule: Rule) -> Result<Watch<'a>, Fail> {
+    fn start<M: Keyed>(
+        trial: &'a Trial,
+        rule: Rule,
+        seed: &'a mut Seed,
+        met: &'a mut Met,
+    ) -> Result<Watch<'a>, Fail> {
         Ok(Watch {
             trial,
             rule,
             least: trial.least::<M>()?,
             opened: 0,
             last: trial.start::<M>()?,
+            seed,
+            met,
         })
     }
 
@@ -143,7 +146,7 @@ impl<'a> Watch<'a> {
         assert!(rt; self.last.floor <= seen.floor && seen.cost <= self.last.cost);
         assert_eq!(rt; seen.done, seen.floor == seen.cost);
         assert_eq!(rt; seen.opened, self.opened);
-        assert_eq!(rt; seen.size, size_of(self.trial.lefts, self.trial.rights));
+        assert_eq!(rt; seen.size, self.trial.sizes.tree_size());
         assert!(rt; seen.opened <= seen.size.unwrap_or(0));
         Ok(())
     }
@@ -157,13 +160,8 @@ impl<'a> Watch<'a> {
     }
 
     // Opens one to seven nodes; fewer than asked for only if the walk is then done.
-    fn run<M: Keyed>(
-        &mut self,
-        rt: &impl Abort,
-        seed: &mut Seed,
-        walk: &mut Search<M>,
-    ) -> Result<(), Fail> {
-        let nodes = u32::from(seed.below(7)).wrapping_add(1);
+    fn run<M: Keyed>(&mut self, rt: &impl Abort, walk: &mut Search<M>) -> Result<(), Fail> {
+        let nodes = u32::from(self.seed.below(7)).wrapping_add(1);
         let opened = walk.run(&self.rule, nodes)?;
         self.opened = self.opened.wrapping_add(opened);
         self.look(rt, walk)?;
@@ -172,16 +170,10 @@ impl<'a> Watch<'a> {
     }
 
     // Offers some drawing.
-    fn offer<M: Keyed>(
-        &mut self,
-        rt: &impl Abort,
-        seed: &mut Seed,
-        met: &mut Met,
-        walk: &mut Search<M>,
-    ) -> Result<(), Fail> {
+    fn offer<M: Keyed>(&mut self, rt: &impl Abort, walk: &mut Search<M>) -> Result<(), Fail> {
         let trial = self.trial;
-        let left = order(trial.heap, trial.lefts, seed.number())?;
-        let right = order(trial.heap, trial.rights, seed.number())?;
+        let left = order(trial.heap, trial.sizes.left, self.seed.number())?;
+        let right = order(trial.heap, trial.sizes.right, self.seed.number())?;
         let Some(drawing) = Drawing::of(&trial.design, left.as_slice(), right.as_slice()) else {
             return Err(Fail::new("the rows are no drawing"));
         };
@@ -193,70 +185,53 @@ impl<'a> Watch<'a> {
         assert_eq!(rt; offered.taken, cost < last.cost);
         self.look(rt, walk)?;
         assert_eq!(rt; self.last, last.after_offer(rows, cost));
-        count(&mut met.taken, cost < last.cost);
-        count(&mut met.kept, last.cost < cost);
-        count(&mut met.tied, last.cost == cost);
+        count(&mut self.met.taken, cost < last.cost);
+        count(&mut self.met.kept, last.cost < cost);
+        count(&mut self.met.tied, last.cost == cost);
         Ok(())
     }
 
     // Runs the walk to its end, with an offer now and then.
-    fn to_the_end<M: Keyed>(
-        &mut self,
-        rt: &impl Abort,
-        seed: &mut Seed,
-        met: &mut Met,
-        walk: &mut Search<M>,
-    ) -> Result<(), Fail> {
+    fn to_the_end<M: Keyed>(&mut self, rt: &impl Abort, walk: &mut Search<M>) -> Result<(), Fail> {
         for _ in 0..2000 {
-            if seed.below(8) == 0 {
-                self.offer(rt, seed, met, walk)?;
+            if self.seed.below(8) == 0 {
+                self.offer(rt, walk)?;
             }
             if self.last.done {
                 return Ok(());
             }
-            self.run(rt, seed, walk)?;
+            self.run(rt, walk)?;
             let inside = self.last.floor.first > 0 && self.last.floor < self.last.cost;
-            count(&mut met.inside, inside);
+            count(&mut self.met.inside, inside);
         }
         Err(Fail::new("the walk does not end"))
     }
 
     // A walk that is done has the least cost of all, and nothing changes any more.
-    fn beyond<M: Keyed>(
-        &mut self,
-        rt: &impl Abort,
-        seed: &mut Seed,
-        met: &mut Met,
-        walk: &mut Search<M>,
-    ) -> Result<(), Fail> {
+    fn beyond<M: Keyed>(&mut self, rt: &impl Abort, walk: &mut Search<M>) -> Result<(), Fail> {
         let end = self.last;
         assert_eq!(rt; end.cost, self.least);
         assert_eq!(rt; end.floor, self.least);
-        self.run(rt, seed, walk)?;
-        self.offer(rt, seed, met, walk)?;
+        self.run(rt, walk)?;
+        self.offer(rt, walk)?;
         assert_eq!(rt; self.last, end);
         Ok(())
     }
 
     // The walk from its start to its end and beyond.
-    fn check_whole<M: Keyed>(
-        &mut self,
-        rt: &impl Abort,
-        seed: &mut Seed,
-        met: &mut Met,
-        walk: &mut Search<M>,
-    ) -> Result<(), Fail> {
+    fn check_whole<M: Keyed>(&mut self, rt: &impl Abort, walk: &mut Search<M>) -> Result<(), Fail> {
         let expected = self.last;
         self.look(rt, walk)?;
         let start = self.last;
         assert_eq!(rt; start.cost, expected.cost);
-        self.to_the_end(rt, seed, met, walk)?;
-        met.add_walk(&start, &self.last);
-        self.beyond(rt, seed, met, walk)
+        self.to_the_end(rt, walk)?;
+        self.met.add_walk(&start, &self.last);
+        self.beyond(rt, walk)
     }
 }
 
-// Random designs, under both measures and both rules.
+// Random designs, under both measures and both rules. A block for each measure: a walk for any measure can be handed out, but
+// not held and lent on (see `Watch`).
 #[test]
 fn walks_against_all_drawings(rt: HostRuntime) -> Result<(), Fail> {
     let mut seed = Seed::new(7);
@@ -265,11 +240,11 @@ fn walks_against_all_drawings(rt: HostRuntime) -> Result<(), Fail> {
         let trial = Trial::new(rt.alloc(), &mut seed)?;
         for rule in [Rule::Settled, Rule::Lesser] {
             let mut strands = Search::<ByStrands>::start(trial.design, &rule);
-            let mut watch = Watch::start::<ByStrands>(&trial, rule)?;
-            watch.check_whole(&rt, &mut seed, &mut met, &mut strands)?;
+            let mut watch = Watch::start::<ByStrands>(&trial, rule, &mut seed, &mut met)?;
+            watch.check_whole(&rt, &mut strands)?;
             let mut trunks = Search::<ByTrunks>::start(trial.design, &rule);
-            let mut watch = Watch::start::<ByTrunks>(&trial, rule)?;
-            watch.check_whole(&rt, &mut seed, &mut met, &mut trunks)?;
+            let mut watch = Watch::start::<ByTrunks>(&trial, rule, &mut seed, &mut met)?;
+            watch.check_whole(&rt, &mut trunks)?;
         }
     }
     met.check(&rt)

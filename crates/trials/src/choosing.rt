@@ -1,4 +1,4 @@
-use crate::plain::{PlainLink, Rows, Sheet, all_rows, design};
+use crate::plain::{PlainLink, Rows, Sheet, Sizes};
 use designs::choosing::{ChoiceFault, PartFault, choose, read_part};
 use designs::comparing::{Comparison, compare};
 use designs::design::Design;
@@ -49,6 +49,8 @@ const LINKS: [PlainLink; 6] = [
     },
 ];
 
+const SIZES: Sizes = Sizes { left: 3, right: 3 };
+
 // A design, and the same links as a plain list.
 #[derive(Drop)]
 struct Trial {
@@ -58,7 +60,7 @@ struct Trial {
 
 impl Trial {
     fn new(rt: &(impl Abort + AllocGlobal)) -> Result<Trial, Fail> {
-        let design = design(3, 3, &LINKS)?;
+        let design = SIZES.design(&LINKS)?;
         let mut sheet = Sheet::new(rt.alloc());
         for link in &LINKS {
             assert!(rt; sheet.put(*link)?);
@@ -108,7 +110,7 @@ impl Trial {
 // Every drawing of the design against every other.
 fn check_choices(rt: &(impl Abort + AllocGlobal)) -> Result<(), Fail> {
     let trial = Trial::new(rt)?;
-    let rows = all_rows(rt.alloc(), 3, 3)?;
+    let rows = SIZES.all_rows(rt.alloc())?;
     let mut met = Vec::new(rt.alloc());
     for one in rows.iter() {
         for two in rows.iter() {
@@ -190,7 +192,7 @@ const UNKNOWN_RIGHT: Part = Part {
     length: 48,
 };
 
-// Why a part is refused, with the number and the layer of that cause.
+// Why a part is refused, with the number and the layer of that cause. The number is written out, since it is what is tested.
 #[derive(Clone, Copy)]
 struct Refusal {
     cause: PartFault,

@@ -1,4 +1,4 @@
-use crate::plain::{PlainLink, Price, Rows, Seed, Sheet};
+use crate::plain::{PlainLink, Price, Rows, Seed, Sheet, Sizes, count};
 use designs::choosing::read_part;
 use designs::design::Design;
 use designs::fault::{DesignFault, LinkFault};
@@ -19,13 +19,10 @@ struct Met {
 
 impl Met {
     fn add_drawing(&mut self, price: Price) {
-        let number = match (price.trunk > 0, price.rest > 0) {
-            (false, false) => &mut self.without,
-            (true, false) => &mut self.trunk,
-            (false, true) => &mut self.rest,
-            (true, true) => &mut self.both,
-        };
-        *number = number.wrapping_add(1);
+        count(&mut self.without, price.all == 0);
+        count(&mut self.trunk, price.trunk > 0 && price.rest == 0);
+        count(&mut self.rest, price.trunk == 0 && price.rest > 0);
+        count(&mut self.both, price.trunk > 0 && price.rest > 0);
     }
 }
 
@@ -40,10 +37,12 @@ struct Trial<'a> {
 
 impl<'a> Trial<'a> {
     fn new(rt: &impl AllocGlobal, seed: &'a mut Seed, met: &'a mut Met) -> Result<Trial<'a>, Fail> {
-        let left = seed.below(5).wrapping_add(1);
-        let right = seed.below(5).wrapping_add(1);
+        let sizes = Sizes {
+            left: seed.below(5).wrapping_add(1),
+            right: seed.below(5).wrapping_add(1),
+        };
         Ok(Trial {
-            design: Design::empty(left, right)?,
+            design: sizes.empty()?,
             sheet: Sheet::new(rt.alloc()),
             seed,
             met,
@@ -60,14 +59,13 @@ impl<'a> Trial<'a> {
     fn put(&mut self, rt: &impl Abort) -> Result<(), Fail> {
         let link = self.some_link();
         let put = link.put_into(&mut self.design);
-        if self.sheet.put(link)? {
-            assert_eq!(rt; put, Ok(link.class));
-        } else {
-            assert_eq!(rt; put, Err(DesignFault::InLink(LinkFault::CellFull)));
-            self.met.full_cells = self.met.full_cells.wrapping_add(1);
-        }
+        let fits = self.sheet.put(link)?;
+        let full = DesignFault::InLink(LinkFault::CellFull);
+        assert_eq!(rt; put, fits.then_some(link.class).ok_or(full));
+        count(&mut self.met.full_cells, !fits);
         let cell = self.design.cell(link.left % 24, link.right % 24);
         let held = self.sheet.at(link.left, link.right);
+        // A `Cell` made to compare with would name the same two fields.
         assert_eq!(rt; cell.strands, held.strands);
         assert_eq!(rt; cell.class, held.class);
         Ok(())

@@ -1,4 +1,4 @@
-use crate::plain::PlainLink;
+use crate::plain::{PlainLink, SizeCase, Sizes};
 use designs::design::Design;
 use designs::fault::{DesignFault, LinkFault};
 use measures::link::Class;
@@ -20,58 +20,51 @@ const UNKNOWN_CLASS: Result<Class, DesignFault> = Err(DesignFault::InLink(LinkFa
 const CELL_FULL: Result<Class, DesignFault> = Err(DesignFault::InLink(LinkFault::CellFull));
 
 // Sizes of a design, and whether it is made.
-#[derive(Drop)]
-struct SizeCase {
-    left: u8,
-    right: u8,
-    made: Result<(), DesignFault>,
-}
-
-const SIZES: [SizeCase; 9] = [
+const SIZES: [SizeCase<Result<(), DesignFault>>; 9] = [
     SizeCase {
-        left: 1,
-        right: 1,
-        made: Ok(()),
+        sizes: Sizes { left: 1, right: 1 },
+        expected: Ok(()),
     },
     SizeCase {
-        left: 24,
-        right: 24,
-        made: Ok(()),
+        sizes: Sizes {
+            left: 24,
+            right: 24,
+        },
+        expected: Ok(()),
     },
     SizeCase {
-        left: 0,
-        right: 1,
-        made: Err(DesignFault::Size),
+        sizes: Sizes { left: 0, right: 1 },
+        expected: Err(DesignFault::Size),
     },
     SizeCase {
-        left: 1,
-        right: 0,
-        made: Err(DesignFault::Size),
+        sizes: Sizes { left: 1, right: 0 },
+        expected: Err(DesignFault::Size),
     },
     SizeCase {
-        left: 0,
-        right: 0,
-        made: Err(DesignFault::Size),
+        sizes: Sizes { left: 0, right: 0 },
+        expected: Err(DesignFault::Size),
     },
     SizeCase {
-        left: 25,
-        right: 1,
-        made: Err(DesignFault::Size),
+        sizes: Sizes { left: 25, right: 1 },
+        expected: Err(DesignFault::Size),
     },
     SizeCase {
-        left: 1,
-        right: 25,
-        made: Err(DesignFault::Size),
+        sizes: Sizes { left: 1, right: 25 },
+        expected: Err(DesignFault::Size),
     },
     SizeCase {
-        left: 255,
-        right: 24,
-        made: Err(DesignFault::Size),
+        sizes: Sizes {
+            left: 255,
+            right: 24,
+        },
+        expected: Err(DesignFault::Size),
     },
     SizeCase {
-        left: 24,
-        right: 255,
-        made: Err(DesignFault::Size),
+        sizes: Sizes {
+            left: 24,
+            right: 255,
+        },
+        expected: Err(DesignFault::Size),
     },
 ];
 
@@ -285,11 +278,11 @@ const CELLS: [PlainLink; 6] = [
 
 fn check_sizes(rt: &impl Abort) -> Result<(), Fail> {
     for case in SIZES {
-        let made = Design::empty(case.left, case.right).map(|design| (
-            design.left_size(),
-            design.right_size(),
-        ));
-        assert_eq!(rt; made, case.made.map(|()| (case.left, case.right)));
+        let made = case.sizes.empty().map(|design| Sizes {
+            left: design.left_size(),
+            right: design.right_size(),
+        });
+        assert_eq!(rt; made, case.expected.map(|()| case.sizes));
     }
     Ok(())
 }
@@ -304,6 +297,7 @@ fn check_links(rt: &impl Abort) -> Result<(), Fail> {
     }
     for case in CELLS {
         let cell = design.cell(case.left % 24, case.right % 24);
+        // A `Cell` made to compare with would name the same two fields.
         assert_eq!(rt; cell.strands, case.strands);
         assert_eq!(rt; cell.class, case.class);
     }
@@ -317,6 +311,7 @@ fn check_corner(rt: &impl Abort) -> Result<(), Fail> {
     assert_eq!(rt; design.link(23, 23, 1, 0), CELL_FULL);
     assert_eq!(rt; design.link(24, 23, 1, 0), UNKNOWN_SWITCH);
     assert_eq!(rt; design.link(23, 24, 1, 0), UNKNOWN_SWITCH);
+    // A `Cell` made to compare with would name the same two fields.
     assert_eq!(rt; design.cell(23, 23).strands, 255);
     assert_eq!(rt; design.cell(23, 23).class, Class::Trunk);
     Ok(())

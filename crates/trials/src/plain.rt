@@ -32,8 +32,8 @@ impl Seed {
         self.byte() % limit.max(1)
     }
 
-    // The switches of one side in some order. Each is put in among those before it, which no iterator's method says, and the
-    // place is drawn anew for each, where `order` below takes it from one number.
+    // The switches of one side in some order. Each is put in among those before it, which no iterator's method says. Not
+    // `order` of one drawn number: the trials would then draw other rows than they did.
     pub fn row(&mut self, heap: Global, size: u8) -> Result<Vec<u8>, AllocError> {
         let mut row = Vec::new(heap);
         for switch in 0..size {
@@ -64,13 +64,12 @@ impl Seed {
     pub fn links(
         &mut self,
         heap: Global,
-        lefts: u8,
-        rights: u8,
+        sizes: Sizes,
         chance: u8,
     ) -> Result<Vec<PlainLink>, AllocError> {
         let mut links = Vec::new(heap);
-        for left in 0..lefts {
-            for right in 0..rights {
+        for left in 0..sizes.left {
+            for right in 0..sizes.right {
                 if self.below(8) < chance {
                     links.push(self.link(left, right, 5))?;
                 }
@@ -80,7 +79,14 @@ impl Seed {
     }
 }
 
-// A trunk if one of the two is.
+// One more, if this was met.
+pub fn count(number: &mut u32, met: bool) {
+    if met {
+        *number = number.wrapping_add(1);
+    }
+}
+
+// A trunk if one of the two is. Written again, so that the list has nothing in common with the library.
 fn either(one: Class, two: Class) -> Class {
     if one.is_trunk() { one } else { two }
 }
@@ -103,15 +109,6 @@ impl PlainLink {
     pub fn put_into(&self, design: &mut Design) -> Result<Class, DesignFault> {
         design.link(self.left, self.right, self.strands, self.class as u8)
     }
-}
-
-// The design of these sizes with these links.
-pub fn design(lefts: u8, rights: u8, links: &[PlainLink]) -> Result<Design, Fail> {
-    let mut design = Design::empty(lefts, rights)?;
-    for link in links {
-        link.put_into(&mut design)?;
-    }
-    Ok(design)
 }
 
 // The links of a design as a plain list, one for each cell that has any. It is searched as one reads a list, so that it has
@@ -180,7 +177,8 @@ impl Price {
     }
 }
 
-// The switches of one side, filled up with 255; no more than 24 of them.
+// The switches of one side, filled up with 255; no more than 24 of them. Written again, so that rows have nothing in common
+// with the library.
 fn filled(switches: &[u8]) -> [u8; 24] {
     let count = switches.len().min(24);
     let mut row = [255; 24];
@@ -193,7 +191,7 @@ fn place(row: &[u8], switch: u8) -> usize {
     row.iter().position(|s| *s == switch).unwrap_or(row.len())
 }
 
-// The rows of a drawing, each filled up with 255.
+// The rows of a drawing, each filled up with 255: a script's 48 bytes as a value, which is copied and compared.
 #[derive(Clone, Copy, PartialEq, Eq, Debug)]
 pub struct Rows {
     left: [u8; 24],
@@ -253,13 +251,6 @@ pub fn order(heap: Global, size: u8, number: u64) -> Result<Vec<u8>, AllocError>
     Ok(row)
 }
 
-// The drawing with both rows in number order.
-pub fn first_rows(heap: Global, lefts: u8, rights: u8) -> Result<Rows, AllocError> {
-    let left = order(heap, lefts, 0)?;
-    let right = order(heap, rights, 0)?;
-    Ok(Rows::of(left.as_slice(), right.as_slice()))
-}
-
 // Every order of so many switches, filled up with 255.
 fn all_orders(heap: Global, size: u8) -> Result<Vec<[u8; 24]>, AllocError> {
     let mut rows = Vec::new(heap);
@@ -269,33 +260,70 @@ fn all_orders(heap: Global, size: u8) -> Result<Vec<[u8; 24]>, AllocError> {
     Ok(rows)
 }
 
-// Every drawing of so many left and right switches.
-pub fn all_rows(heap: Global, lefts: u8, rights: u8) -> Result<Vec<Rows>, AllocError> {
-    let lefts = all_orders(heap, lefts)?;
-    let rights = all_orders(heap, rights)?;
-    let mut rows = Vec::new(heap);
-    for left in lefts.iter() {
-        for right in rights.iter() {
-            rows.push(Rows {
-                left: *left,
-                right: *right,
-            })?;
-        }
-    }
-    Ok(rows)
-}
-
 // How many nodes lie below one with so many children, if so many lie below each child.
 fn grown(below: u64, children: u8) -> u64 {
     below.saturating_add(1).saturating_mul(u64::from(children))
 }
 
-// The size of the tree, by what lies below each node: with j right switches unplaced j children, with k left
-// switches placed k + 1; none above 1,000,000,000.
-pub fn size_of(lefts: u8, rights: u8) -> Option<u32> {
-    let below_lefts = (1..=rights).fold(0, grown);
-    let size = (1..=lefts).rev().fold(below_lefts, grown);
-    u32::try_from(size)
-        .ok()
-        .filter(|size| *size <= 1_000_000_000)
+// How many switches a design has, left and right.
+#[derive(Clone, Copy, PartialEq, Eq, Debug)]
+pub struct Sizes {
+    pub left: u8,
+    pub right: u8,
+}
+
+impl Sizes {
+    // The design of these sizes without a link.
+    pub fn empty(self) -> Result<Design, DesignFault> {
+        Design::empty(self.left, self.right)
+    }
+
+    // The design of these sizes with these links.
+    pub fn design(self, links: &[PlainLink]) -> Result<Design, Fail> {
+        let mut design = self.empty()?;
+        for link in links {
+            link.put_into(&mut design)?;
+        }
+        Ok(design)
+    }
+
+    // The drawing with both rows in number order.
+    pub fn first_rows(self, heap: Global) -> Result<Rows, AllocError> {
+        let left = order(heap, self.left, 0)?;
+        let right = order(heap, self.right, 0)?;
+        Ok(Rows::of(left.as_slice(), right.as_slice()))
+    }
+
+    // Every drawing of so many switches.
+    pub fn all_rows(self, heap: Global) -> Result<Vec<Rows>, AllocError> {
+        let lefts = all_orders(heap, self.left)?;
+        let rights = all_orders(heap, self.right)?;
+        let mut rows = Vec::new(heap);
+        for left in lefts.iter() {
+            for right in rights.iter() {
+                rows.push(Rows {
+                    left: *left,
+                    right: *right,
+                })?;
+            }
+        }
+        Ok(rows)
+    }
+
+    // The size of the tree, by what lies below each node: with j right switches unplaced j children, with k left
+    // switches placed k + 1; none above 1,000,000,000.
+    pub fn tree_size(self) -> Option<u32> {
+        let below_lefts = (1..=self.right).fold(0, grown);
+        let size = (1..=self.left).rev().fold(below_lefts, grown);
+        u32::try_from(size)
+            .ok()
+            .filter(|size| *size <= 1_000_000_000)
+    }
+}
+
+// Sizes of a design, and what is expected of them.
+#[derive(Drop)]
+pub struct SizeCase<T> {
+    pub sizes: Sizes,
+    pub expected: T,
 }

@@ -15,6 +15,7 @@ struct Outcome {
 }
 
 impl Outcome {
+    // Expected texts are slices, and an Outcome owns its text: so each field is compared.
     fn check(
         &self,
         rt: &impl Abort,
@@ -44,7 +45,8 @@ impl<'a, R: Abort + AllocGlobal> Player<'a, R> {
         }
     }
 
-    // Calls the session on a line of this length, which is unchanged behind the text.
+    // Calls the session on a line of this length, which is unchanged behind the text. Three parameters, as in the call that
+    // is tested.
     fn call(&mut self, script: &[u8], place: usize, room: usize) -> Result<Outcome, Fail> {
         let mut line = vec![in self.rt.alloc(); UNTOUCHED; room]?;
         let answer = self.session.call(script, place, line.as_mut_slice());
@@ -185,7 +187,7 @@ impl Start {
         Ok(outcome)
     }
 
-    // The same, where the script's layer refuses the command.
+    // The same, where the script's layer refuses the command. The number is written out, since it is what is tested.
     fn then_refused(
         &self,
         rt: &(impl Abort + AllocGlobal),

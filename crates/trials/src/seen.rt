@@ -53,7 +53,8 @@ impl Keyed for ByTrunks {
     }
 }
 
-// What a report says.
+// What a report says, in amounts of either measure. Its own type: a report is generic in the amount and has no equality. The
+// flag stands beside what is told either way.
 #[derive(Clone, Copy, PartialEq, Eq, Debug)]
 pub struct Seen {
     pub done: bool,

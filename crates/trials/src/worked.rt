@@ -1,6 +1,5 @@
-use crate::plain::{PlainLink, Rows, Seed, design, first_rows, size_of};
+use crate::plain::{PlainLink, Rows, Seed, SizeCase, Sizes};
 use crate::seen::{Key, Keyed, Seen, see};
-use designs::design::Design;
 use measures::link::Class;
 use measures::strands::ByStrands;
 use measures::trunks::ByTrunks;
@@ -130,8 +129,7 @@ const SIX_BEHIND: Key = Key {
 #[derive(Drop)]
 struct Case {
     rule: Rule,
-    lefts: u8,
-    rights: u8,
+    sizes: Sizes,
     links: &'static [PlainLink],
     size: u32,
     first: Key,
@@ -144,8 +142,7 @@ struct Case {
 const BY_STRANDS: [Case; 10] = [
     Case {
         rule: Rule::Lesser,
-        lefts: 2,
-        rights: 2,
+        sizes: Sizes { left: 2, right: 2 },
         links: &TWO,
         size: 11,
         first: SIX,
@@ -156,8 +153,7 @@ const BY_STRANDS: [Case; 10] = [
     },
     Case {
         rule: Rule::Settled,
-        lefts: 2,
-        rights: 2,
+        sizes: Sizes { left: 2, right: 2 },
         links: &TWO,
         size: 11,
         first: SIX,
@@ -168,8 +164,7 @@ const BY_STRANDS: [Case; 10] = [
     },
     Case {
         rule: Rule::Lesser,
-        lefts: 2,
-        rights: 2,
+        sizes: Sizes { left: 2, right: 2 },
         links: &ALL_FOUR,
         size: 11,
         first: ONE,
@@ -180,8 +175,7 @@ const BY_STRANDS: [Case; 10] = [
     },
     Case {
         rule: Rule::Settled,
-        lefts: 2,
-        rights: 2,
+        sizes: Sizes { left: 2, right: 2 },
         links: &ALL_FOUR,
         size: 11,
         first: ONE,
@@ -192,8 +186,7 @@ const BY_STRANDS: [Case; 10] = [
     },
     Case {
         rule: Rule::Lesser,
-        lefts: 2,
-        rights: 2,
+        sizes: Sizes { left: 2, right: 2 },
         links: &TRADE,
         size: 11,
         first: ONE,
@@ -204,8 +197,7 @@ const BY_STRANDS: [Case; 10] = [
     },
     Case {
         rule: Rule::Settled,
-        lefts: 2,
-        rights: 2,
+        sizes: Sizes { left: 2, right: 2 },
         links: &TRADE,
         size: 11,
         first: ONE,
@@ -216,8 +208,7 @@ const BY_STRANDS: [Case; 10] = [
     },
     Case {
         rule: Rule::Lesser,
-        lefts: 1,
-        rights: 3,
+        sizes: Sizes { left: 1, right: 3 },
         links: &FAN,
         size: 16,
         first: NOTHING,
@@ -228,8 +219,7 @@ const BY_STRANDS: [Case; 10] = [
     },
     Case {
         rule: Rule::Settled,
-        lefts: 1,
-        rights: 3,
+        sizes: Sizes { left: 1, right: 3 },
         links: &FAN,
         size: 16,
         first: NOTHING,
@@ -240,8 +230,7 @@ const BY_STRANDS: [Case; 10] = [
     },
     Case {
         rule: Rule::Lesser,
-        lefts: 3,
-        rights: 3,
+        sizes: Sizes { left: 3, right: 3 },
         links: &[],
         size: 99,
         first: NOTHING,
@@ -252,8 +241,7 @@ const BY_STRANDS: [Case; 10] = [
     },
     Case {
         rule: Rule::Settled,
-        lefts: 3,
-        rights: 3,
+        sizes: Sizes { left: 3, right: 3 },
         links: &[],
         size: 99,
         first: NOTHING,
@@ -267,8 +255,7 @@ const BY_STRANDS: [Case; 10] = [
 const BY_TRUNKS: [Case; 5] = [
     Case {
         rule: Rule::Lesser,
-        lefts: 2,
-        rights: 2,
+        sizes: Sizes { left: 2, right: 2 },
         links: &TWO,
         size: 11,
         first: SIX_BEHIND,
@@ -279,8 +266,7 @@ const BY_TRUNKS: [Case; 5] = [
     },
     Case {
         rule: Rule::Lesser,
-        lefts: 2,
-        rights: 2,
+        sizes: Sizes { left: 2, right: 2 },
         links: &ALL_FOUR,
         size: 11,
         first: ONE_BEHIND,
@@ -291,8 +277,7 @@ const BY_TRUNKS: [Case; 5] = [
     },
     Case {
         rule: Rule::Lesser,
-        lefts: 2,
-        rights: 2,
+        sizes: Sizes { left: 2, right: 2 },
         links: &TRADE,
         size: 11,
         first: ONE,
@@ -303,8 +288,7 @@ const BY_TRUNKS: [Case; 5] = [
     },
     Case {
         rule: Rule::Settled,
-        lefts: 2,
-        rights: 2,
+        sizes: Sizes { left: 2, right: 2 },
         links: &TRADE,
         size: 11,
         first: ONE,
@@ -315,8 +299,7 @@ const BY_TRUNKS: [Case; 5] = [
     },
     Case {
         rule: Rule::Settled,
-        lefts: 1,
-        rights: 3,
+        sizes: Sizes { left: 1, right: 3 },
         links: &FAN,
         size: 16,
         first: NOTHING,
@@ -336,7 +319,7 @@ impl Case {
             cost: self.first,
             floor: NOTHING,
             size: Some(self.size),
-            rows: first_rows(rt.alloc(), self.lefts, self.rights)?,
+            rows: self.sizes.first_rows(rt.alloc())?,
         })
     }
 
@@ -354,11 +337,11 @@ impl Case {
 
     // A walk that was just started.
     fn walk<M: Keyed>(&self) -> Result<Search<M>, Fail> {
-        let design = design(self.lefts, self.rights, self.links)?;
+        let design = self.sizes.design(self.links)?;
         Ok(Search::start(design, &self.rule))
     }
 
-    // A walk that was just started, to its end and beyond. It is lent: of a walk made here, for any
+    // A walk that was just started, to its end and beyond. It is lent: of a walk held here, for any
     // measure, it is not found that it fits into memory.
     fn check_whole<M: Keyed>(
         &self,
@@ -388,7 +371,7 @@ impl Case {
     }
 }
 
-// A loop for each measure, since no walk is made in a generic function (see `check_whole`).
+// A loop for each measure: a walk for any measure can be handed out, but not held and lent on (see `check_whole`).
 #[test]
 fn worked_designs(rt: HostRuntime) -> Result<(), Fail> {
     for case in &BY_STRANDS {
@@ -428,98 +411,79 @@ fn refused_runs(rt: HostRuntime) -> Result<(), Fail> {
     Ok(())
 }
 
-// The size of a tree.
-#[derive(Drop)]
-struct SizeCase {
-    lefts: u8,
-    rights: u8,
-    size: Option<u32>,
-}
-
-const SIZES: [SizeCase; 15] = [
+// Sizes of a design, and the size of its tree.
+const SIZES: [SizeCase<Option<u32>>; 15] = [
     SizeCase {
-        lefts: 1,
-        rights: 1,
-        size: Some(2),
+        sizes: Sizes { left: 1, right: 1 },
+        expected: Some(2),
     },
     SizeCase {
-        lefts: 1,
-        rights: 2,
-        size: Some(5),
+        sizes: Sizes { left: 1, right: 2 },
+        expected: Some(5),
     },
     SizeCase {
-        lefts: 2,
-        rights: 1,
-        size: Some(5),
+        sizes: Sizes { left: 2, right: 1 },
+        expected: Some(5),
     },
     SizeCase {
-        lefts: 2,
-        rights: 2,
-        size: Some(11),
+        sizes: Sizes { left: 2, right: 2 },
+        expected: Some(11),
     },
     SizeCase {
-        lefts: 1,
-        rights: 3,
-        size: Some(16),
+        sizes: Sizes { left: 1, right: 3 },
+        expected: Some(16),
     },
     SizeCase {
-        lefts: 3,
-        rights: 1,
-        size: Some(15),
+        sizes: Sizes { left: 3, right: 1 },
+        expected: Some(15),
     },
     SizeCase {
-        lefts: 3,
-        rights: 3,
-        size: Some(99),
+        sizes: Sizes { left: 3, right: 3 },
+        expected: Some(99),
     },
     SizeCase {
-        lefts: 4,
-        rights: 4,
-        size: Some(1569),
+        sizes: Sizes { left: 4, right: 4 },
+        expected: Some(1569),
     },
     SizeCase {
-        lefts: 11,
-        rights: 1,
-        size: Some(83_871_513),
+        sizes: Sizes { left: 11, right: 1 },
+        expected: Some(83_871_513),
     },
     SizeCase {
-        lefts: 12,
-        rights: 1,
-        size: None,
+        sizes: Sizes { left: 12, right: 1 },
+        expected: None,
     },
     SizeCase {
-        lefts: 1,
-        rights: 11,
-        size: Some(108_505_112),
+        sizes: Sizes { left: 1, right: 11 },
+        expected: Some(108_505_112),
     },
     SizeCase {
-        lefts: 1,
-        rights: 12,
-        size: None,
+        sizes: Sizes { left: 1, right: 12 },
+        expected: None,
     },
     SizeCase {
-        lefts: 24,
-        rights: 1,
-        size: None,
+        sizes: Sizes { left: 24, right: 1 },
+        expected: None,
     },
     SizeCase {
-        lefts: 1,
-        rights: 24,
-        size: None,
+        sizes: Sizes { left: 1, right: 24 },
+        expected: None,
     },
     SizeCase {
-        lefts: 24,
-        rights: 24,
-        size: None,
+        sizes: Sizes {
+            left: 24,
+            right: 24,
+        },
+        expected: None,
     },
 ];
 
 #[test]
 fn tree_sizes(rt: HostRuntime) -> Result<(), Fail> {
     for case in &SIZES {
-        let design = Design::empty(case.lefts, case.rights)?;
-        assert_eq!(rt; tree_size(&design), case.size);
-        assert_eq!(rt; size_of(case.lefts, case.rights), case.size);
+        let design = case.sizes.empty()?;
+        assert_eq!(rt; tree_size(&design), case.expected);
+        assert_eq!(rt; case.sizes.tree_size(), case.expected);
     }
     Ok(())
 }
@@ -527,8 +491,12 @@ fn tree_sizes(rt: HostRuntime) -> Result<(), Fail> {
 // Some runs of a walk of a large design, which has far more nodes.
 #[test]
 fn large_design(rt: HostRuntime) -> Result<(), Fail> {
-    let links = Seed::new(3).links(rt.alloc(), 24, 24, 1)?;
-    let design = design(24, 24, links.as_slice())?;
+    let sizes = Sizes {
+        left: 24,
+        right: 24,
+    };
+    let links = Seed::new(3).links(rt.alloc(), sizes, 1)?;
+    let design = sizes.design(links.as_slice())?;
     let mut walk = Search::<ByStrands>::start(design, &Rule::Lesser);
     let mut last = see(&walk);
     for nodes in [20, 1, 179] {

@@ -24,7 +24,8 @@ fn no_cells() -> Cells
     }
 }
 
-// A design of these sizes without links.
+// A design of these sizes without links. What is proved of it by hand stands here, and not in the public function. The sizes
+// are two fields of the design, so a struct of the two would be taken apart at once.
 fn blank(left: SideSize, right: SideSize) -> Design
     ensures { grid_of result ≡ no_links left.count right.count }
 {
@@ -33,7 +34,7 @@ fn blank(left: SideSize, right: SideSize) -> Design
 }
 
 impl Design {
-    // A design of these sizes without links.
+    // A design of these sizes without links. A script brings them as two bytes.
     pub fn empty(left: u8, right: u8) -> Result<Design, DesignFault>
         ensures { on_ok grid_of result ≡ sized left right }
     {
@@ -42,7 +43,8 @@ impl Design {
         Ok(blank(left, right))
     }
 
-    // Whether a link may be put in, and its class.
+    // Whether a link may be put in, and its class. The four bytes of an L stay parameters, here and below: a struct would be
+    // made for one call, and its class is a number before the check and a Class after.
     fn check_link(&self, left: u8, right: u8, strands: u8, class: u8) -> Result<Class, LinkFault>
         ensures { result ≡ link_check (grid_of self.now) left right strands class }
     {
@@ -79,7 +81,8 @@ impl Design {
     }
 
     // Puts a link in, and answers its class: its cell gets the strands added, and is trunk if either link is. The class comes
-    // as a script's number, since the refusal of one that is no class lies between two others of this call.
+    // as a script's number, since the refusal of one that is no class lies between two others of this call. That a refusal
+    // changes nothing compares before with after, which no field can say.
     pub fn link(
         &mut self,
         left: u8,

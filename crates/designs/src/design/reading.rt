@@ -15,7 +15,7 @@ impl Design {
     }
 
     // How many left switches there are. Each side has its getter: one for both would take the side as an argument at each
-    // call, which is no plainer.
+    // call, which is no plainer. A caller gets a byte, as its loops need, so the limits of `SideSize` are said here.
     pub fn left_size(&self) -> u8
         ensures value { result ≡ (grid_of self.now).lefts }
         ensures bound { (1 ≤ result) × (result ≤ 24) }

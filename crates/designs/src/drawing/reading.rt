@@ -2,7 +2,7 @@ ghost use Rattle.std.specs.Prelude.{◌≡◌, ℕ, ◌&&◌, length, if◌then�
 ghost use Rattle.std.specs.Option.{option_map};
 ghost use Rattle.designs.specs.Grids.{grid_of};
 ghost use Rattle.designs.specs.Results.{on_ok};
-ghost use Rattle.designs.specs.Readings.{rows_of, rows_in, rows_named, read_rows, first_rows};
+ghost use Rattle.designs.specs.Readings.{rows_of, rows_named, read_rows, first_rows};
 ghost use Rattle.designs.specs.Rows.{Order, is_order};
 
 use super::Drawing;
@@ -11,20 +11,9 @@ use crate::fault::RowFault;
 use crate::row::Row;
 use crate::side::SideSize;
 
-// Reads two rows of these sizes from 48 bytes. The sizes stay two parameters, left before right as everywhere: a struct of
-// the two would be opened in each function that takes it.
-fn read_rows(bytes: &[u8], lefts: SideSize, rights: SideSize) -> Result<Drawing, RowFault>
-    requires { length bytes.now ≡ 48 }
-    ensures { on_ok rows_of result ≡ rows_in lefts.count rights.count bytes.now }
-{
-    let (left, right) = bytes.split_at(24);
-    let left = Row::read(left, lefts).ok_or(RowFault::LeftRow)?;
-    let right = Row::read(right, rights).ok_or(RowFault::RightRow)?;
-    Ok(Drawing { left, right })
-}
-
 // The drawing with these rows, if they are orders of so many switches. What is proved of it by hand stands here, and not in
-// the public function.
+// the public function. `Row::read` and `Row::of` take one size each, so a struct of the two would be made only to be taken
+// apart.
 fn with_rows(left: &[u8], right: &[u8], lefts: SideSize, rights: SideSize) -> Option<Drawing>
     ensures value { option_map rows_of result ≡ (if is_order lefts.count left.now && is_order rights.count right.now then Some (record { left = left.now; right = right.now }) else None) }
     ensures meaning { (Decides (is_order lefts.count left.now) (Order lefts.count left.now)) × (Decides (is_order rights.count right.now) (Order rights.count right.now)) }
@@ -41,7 +30,10 @@ impl Drawing {
         ensures { on_ok rows_of result ≡ read_rows (grid_of design.now) bytes.now }
     {
         let (lefts, rights) = design.sizes();
-        read_rows(bytes, lefts, rights)
+        let (left, right) = bytes.split_at(24);
+        let left = Row::read(left, lefts).ok_or(RowFault::LeftRow)?;
+        let right = Row::read(right, rights).ok_or(RowFault::RightRow)?;
+        Ok(Drawing { left, right })
     }
 
     // The drawing of the design with these rows; none where one is not an order of its side's switches.

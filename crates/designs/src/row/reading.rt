@@ -9,7 +9,8 @@ use crate::side::SideSize;
 // What stands behind the switches.
 const FILLER: u8 = 255;
 
-// Whether each number below the length is named once.
+// Whether each number below the length is named once. The casts stay, here and below: the check proves that nothing is
+// lost, and TryFrom would add a branch that never comes.
 fn names_each_once(names: &[u8]) -> bool
     requires { length names.now ≤ 24 }
     ensures { result ≡ each_once (length names.now) names.now }

@@ -11,7 +11,8 @@ use crate::names::Names;
 use designs::design::Design;
 
 impl Node {
-    // The next left switch put in at a place.
+    // The next left switch put in at a place. The casts stay, here and below: the check proves that nothing is lost, and
+    // TryFrom would add a branch that never comes.
     fn put(&self, place: u8) -> Node
         requires few { length (partial_of self.now).placed < 24 }
         requires place { place ≤ length (partial_of self.now).placed }

@@ -23,7 +23,7 @@ impl<M: Measure, R: Drop> MeasuredSession<M, R> {
     }
 
     // Carries out the command at a byte of the script, for a line with this much room. The three stay parameters, as in a
-    // session's call.
+    // session's call. That a refusal changes nothing, and no call the rule, compares before with after: no field can say it.
     pub fn call(&mut self, script: &[u8], place: usize, room: usize) -> Reply<M>
         ensures told { result.told ≡ (called M.Amount.Amount.kind M.Measure.priced (stage_of self.old.condition) script.now place room).told }
         ensures next { result.next ≡ next_byte script.now place (read_command script.now place room) }

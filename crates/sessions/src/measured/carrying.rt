@@ -13,7 +13,8 @@ use scripts::fault::{ScriptFault, SearchFault, at_place};
 
 impl<M: Measure, R: Drop> MeasuredSession<M, R> {
     // Carries out a command that has all its operands. They are taken by place: a slice pattern would need an else that is
-    // never reached. That a refusal changes nothing, and no call the rule, is promised by each call for itself.
+    // never reached. That a refusal changes nothing, and no call the rule, is promised by each call for itself: it compares
+    // before with after, which no field can say.
     pub(super) fn carry_out(
         &mut self,
         letter: char,
@@ -26,6 +27,7 @@ impl<M: Measure, R: Drop> MeasuredSession<M, R> {
         ensures refused { OnErr result (self.new ≡ self.old) }
         ensures rule { self.new.rule ≡ self.old.rule }
     {
+        // Matched together, as a project rule asks.
         match (&mut self.condition, letter) {
             (Condition::Set | Condition::Searching(_), 'D') => {
                 let (left, right) = (operands[0], operands[1]);

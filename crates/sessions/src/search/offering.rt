@@ -18,7 +18,8 @@ impl<M: Measure> Search<M> {
         Search { design, best }
     }
 
-    // Takes an offered drawing if it costs less than the best; answers whether it does.
+    // Takes an offered drawing if it costs less than the best; answers whether it does. It only passes on to `Best::take`: it
+    // is public, and promises in the words of a session's stages.
     pub fn offer(&mut self, drawing: Drawing, cost: M::Amount) -> bool
         ensures taken { result ≡ is_better M.Amount.Amount.kind self.old.best.cost cost }
         ensures stage { stage_searching self.new ≡ offered_stage M.Amount.Amount.kind (grid_of self.old.design) (rows_of self.old.best.drawing) self.old.best.cost (rows_of drawing) cost }

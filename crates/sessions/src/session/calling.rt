@@ -14,20 +14,14 @@ use measures::trunks::ByTrunks;
 use scripts::command::{Command, next_after, read_command};
 use scripts::fault::{ScriptFault, SetupFault, at_place};
 
-// The session that an M with these two numbers leaves. Its two arms differ in a type that no number can choose otherwise,
-// and the measure is refused before the rule is looked at.
+// The session that an M with these two numbers leaves. Its two arms differ only in a type, which no number can choose
+// otherwise, and the measure is refused before the rule is looked at.
 fn set_up(measure: u8, rule: u8) -> Result<Session, SetupFault>
     ensures { on_ok whole_of result ≡ set_up measure rule }
 {
     match measure {
-        ByStrands::NUMBER => {
-            let rule = Rule::try_from(rule)?;
-            Ok(Session::ByStrands(MeasuredSession::new(rule)))
-        }
-        ByTrunks::NUMBER => {
-            let rule = Rule::try_from(rule)?;
-            Ok(Session::ByTrunks(MeasuredSession::new(rule)))
-        }
+        ByStrands::NUMBER => Ok(Session::ByStrands(MeasuredSession::new(Rule::try_from(rule)?))),
+        ByTrunks::NUMBER => Ok(Session::ByTrunks(MeasuredSession::new(Rule::try_from(rule)?))),
         _ => Err(SetupFault::UnknownMeasure),
     }
 }
@@ -61,7 +55,8 @@ impl Session {
     }
 
     // Carries out the command at a byte of the script, and writes to the lent line. Script, place and line stay three
-    // parameters: each call brings another place, and a struct of the three would be taken apart at once.
+    // parameters: each call brings another place, and a struct of the three would be taken apart at once. That the line has
+    // room is the premise of moving on, and no type's; that a refusal changes nothing compares before with after.
     pub fn call(&mut self, script: &[u8], place: usize, line: &mut [u8]) -> Answer
         ensures refused { result.refused ≡ (outcome (whole_of self.old) script.now place (length line.old)).refused }
         ensures next { result.next ≡ next_byte script.now place (read_command script.now place (length line.old)) }
@@ -75,6 +70,7 @@ impl Session {
             Ok(command) => command,
             Err(fault) => return refuse(line, fault, next_after(fault, place, script.len())),
         };
+        // Matched together, as a project rule asks.
         match (&mut *self, letter) {
             (Session::Fresh, 'M') => match set_up_at(script[place + 1], script[place + 2], place) {
                 Ok(session) => {
@@ -88,6 +84,7 @@ impl Session {
                 Err(fault) => refuse(line, fault, next),
             },
             (Session::Fresh, _) => refuse(line, ScriptFault::WrongCondition { place }, next),
+            // An arm for each measure, as the variants are two types.
             (Session::ByStrands(session), _) => session.call_on_line(script, place, line).into(),
             (Session::ByTrunks(session), _) => session.call_on_line(script, place, line).into(),
         }

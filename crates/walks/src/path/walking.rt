@@ -24,7 +24,8 @@ impl<A: Amount> Path<A> {
         }
     }
 
-    // Puts a node's children before all open nodes.
+    // Puts a node's children before all open nodes. `MayFollow` speaks of path and node together, so neither type can hold
+    // it.
     pub(crate) fn push(&mut self, node: Node, bound: A)
         requires room { depth_of self.old < 48 }
         requires deep { MayFollow self.old node }
@@ -38,7 +39,7 @@ impl<A: Amount> Path<A> {
     }
 
     // Takes the first open node. The next child is an Option taken apart by let else, otherwise the walk goes back one level,
-    // as a project rule asks.
+    // as a project rule asks. Taking a node leaves the design, which is compared before and after, so no field can say it.
     pub(crate) fn next(&mut self) -> Option<Waiting<A>>
         ensures taken { MatchOption result ((frontier_of self.old ≡ []) × (frontier_of self.new ≡ [])) (λ o. frontier_of self.old ≡ record { node = partial_of o.node; inherited = o.inherited } ∷ frontier_of self.new) }
         ensures deep { IfSome result (λ o. MayFollow self.new o.node) }

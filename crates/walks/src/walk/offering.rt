@@ -11,7 +11,8 @@ use measures::measure::Measure;
 
 impl<M: Measure> Search<M> {
     // Takes a drawing if it costs less than the best. Tried as one body with `offer`: what that promises beyond this is
-    // proved by hand, and then not found.
+    // proved by hand, and then not found. `GoesTo` compares the walk before and after, here and in each step of a run, which
+    // no field can say.
     pub(super) fn take_better(&mut self, drawing: Drawing) -> Offered<M::Amount>
         ensures goes { GoesTo self.old self.new (offer M.Amount.Amount.kind (cost_in self.old) (rows_of drawing) (walk_of self.old)) }
         ensures cost { result.cost ≡ cost_in self.old (rows_of drawing) }

@@ -14,7 +14,8 @@ use measures::measure::Measure;
 use partials::node::Node;
 use partials::rule::BoundingRule;
 
-// The greater of two amounts, the first where they are level. An amount is no Ord, so it has no max.
+// The greater of two amounts, the first where they are level. An amount is no Ord, so it has no max. On a tie both give the
+// first, so `lesser_of` turned round is not this.
 fn greater_of<A: Amount>(x: A, y: A) -> A
     ensures { result ≡ greater A.Amount.kind x y }
 {

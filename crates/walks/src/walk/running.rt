@@ -39,7 +39,8 @@ impl<M: Measure> Search<M> {
     }
 
     // Opens up to so many nodes, until the walk is done; answers how many. Refused for 0 or more than 1,000,000 nodes,
-    // or if they would make more than 1,000,000,000 with those opened before.
+    // or if they would make more than 1,000,000,000 with those opened before. That a refusal changes nothing compares before
+    // with after, which no field can say.
     pub fn run<R: BoundingRule<M>>(&mut self, rule: &R, nodes: u32) -> Result<u32, RunFault>
         ensures check { on_ok (λ _. nodes) result ≡ run_check self.old.opened nodes }
         ensures refused { OnErr result (self.new ≡ self.old) }
