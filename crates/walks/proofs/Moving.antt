@@ -9,12 +9,11 @@ use Rattle.partials.specs.Partials.{Partial, PartialOf, DrawingOf, Completes}
 use Rattle.walks.specs.Moves.{Started, Ran, Weighed}
 use Rattle.walks.specs.Reached.{Reached, Steady}
 use Rattle.walks.specs.Reached.Reached.{starts, offers}
-use Rattle.walks.specs.Reports.{Reports, AlwaysTrue}
+use Rattle.walks.specs.Reports.{Values, reported, TrueReport, AlwaysTrue}
 use Rattle.walks.specs.Runs.{Exact}
 use Rattle.walks.specs.Searches.{walk_of, grid_in, cost_in, GoesTo, Bounding, SearchBelow}
 use Rattle.walks.specs.Walk.{Walk, start, run, offer}
 use Rattle.walks.specs.declared.offered.Offered.{Offered}
-use Rattle.walks.specs.declared.report.Report.{Report}
 use Rattle.walks.specs.declared.walk.Search.{Search}
 use Rattle.walks.proofs.Steps.{run_exact}
 use Rattle.walks.proofs.Truths.{reached_truthful, report_true, run_reached, run_steady, offer_steady}
@@ -57,6 +56,6 @@ module _ {M A : Type 0} {gm : MeasureGhosts M A} {ga : AmountGhosts A} where
           steady = λ answered root bounds d c b. subst (Steady ga.kind (walk_of s)) (sym h.walk) (offer_steady ga.kind laws g (cost_in s) (answered g) (bounds g) root (walk_of s) x b d c);
         }
 
-    pub always_true : (s : Search M A gm ga) (r : Report A) → Reports ga.kind (grid_in s) (walk_of s) r → AlwaysTrue s r
-    always_true s r is = λ answered root bounds below. report_true ga.kind gm.priced (grid_in s) root (walk_of s) r is
-        (reached_truthful ga.kind laws (grid_in s) (cost_in s) (answered (grid_in s)) (bounds (grid_in s)) root (walk_of s) below)
+    pub always_true : (s : Search M A gm ga) (r : Values A) → r ≡ reported ga.kind (grid_in s) (walk_of s) → AlwaysTrue s r
+    always_true s r is = λ answered root bounds below. subst (TrueReport ga.kind gm.priced (grid_in s) root) (sym is) (report_true ga.kind gm.priced (grid_in s) root (walk_of s)
+        (reached_truthful ga.kind laws (grid_in s) (cost_in s) (answered (grid_in s)) (bounds (grid_in s)) root (walk_of s) below))

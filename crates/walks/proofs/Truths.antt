@@ -1,5 +1,5 @@
 -- Every search is truthful, and steady from each moment to the next.
-use Rattle.std.proofs.Common.{◌≡◌, ℕ, zero, suc, ◌≤◌, true, sym, ap, ◌∙◌, subst, arith}
+use Rattle.std.proofs.Common.{◌≡◌, ℕ, zero, suc, ◌≤◌, true, arith}
 use Rattle.std.proofs.lemmas.List.Elements.{All-weaker}
 use Rattle.std.proofs.lemmas.Bool.{cond_both}
 use Rattle.measures.specs.Amounts.{Kind, Lawful, AtMost}
@@ -10,8 +10,7 @@ use Rattle.partials.specs.Partials.{Partial, PartialOf, DrawingOf, Completes}
 use Rattle.partials.specs.Tree.{nodes_below}
 use Rattle.walks.specs.Reached.{Reached, Steady, NoneBelow}
 use Rattle.walks.specs.Reached.Reached.{starts, opens, offers}
-use Rattle.walks.specs.Reports.{Reports, TrueReport}
-use Rattle.walks.specs.declared.report.Report.{Report}
+use Rattle.walks.specs.Reports.{TrueReport, reported}
 use Rattle.walks.specs.Walk.{Walk, open_one, run, offer, lower_bound, is_done}
 use Rattle.walks.proofs.Coverage.{Sound, Sound-open, start_sound, open_one_step, run_step, offer_step, no_drawing_below_the_bound, done_is_least}
 use Rattle.walks.proofs.Weights.{reach, start_counted, open_one_counted, offer_counted}
@@ -64,13 +63,6 @@ module _ {A : Type 0} (K : Kind A) (laws : Lawful K) (g : Grid) (cost : TwoRows 
   pub offer_steady : (w : Walk A) (x : TwoRows) → Reached K g cost answer root w → DrawingOf g x → Completes root x → Steady K w (offer K cost x w)
   offer_steady w x r d c = (offer_step K laws g cost answer bounds root x d c w (reached_sound w r).0).goes
 
--- a report of a truthful search is true
-pub report_true : {A : Type 0} (K : Kind A) (priced : Link → Link → A) (g : Grid) (root : Partial) (w : Walk A) (r : Report A) → Reports K g w r → Truthful K g (cost_of K priced g) root w → TrueReport K priced g root r
-report_true K priced g root w r is t = record {
-  drawing = subst (DrawingOf g) (sym is.drawing) t.drawing;
-  within = subst (Completes root) (sym is.drawing) t.within;
-  priced_so = is.cost ∙ (t.priced ∙ ap (cost_of K priced g) (sym is.drawing));
-  bounded = subst (NoneBelow K g (cost_of K priced g) root) (sym is.floor) t.bounded;
-  least = λ e. subst (NoneBelow K g (cost_of K priced g) root) (sym is.cost) (t.least (sym is.done ∙ e));
-  counted = omega (arith, is.opened, t.counted);
-}
+-- what is reported of a truthful search is true
+pub report_true : {A : Type 0} (K : Kind A) (priced : Link → Link → A) (g : Grid) (root : Partial) (w : Walk A) → Truthful K g (cost_of K priced g) root w → TrueReport K priced g root (reported K g w)
+report_true K priced g root w t = record { drawing = t.drawing; within = t.within; priced_so = t.priced; bounded = t.bounded; least = t.least; counted = t.counted }

@@ -1,5 +1,5 @@
 -- The worked designs, evaluated.
-use Rattle.std.specs.Prelude.{◌≡◌, ℕ, Bool, true, replicate, Some, None}
+use Rattle.std.specs.Prelude.{◌≡◌, ℕ, Bool, true, List, [], ◌∷◌, replicate, Some, None}
 use Rattle.measures.specs.Amounts.{Kind}
 use Rattle.measures.specs.Sums.{sums}
 use Rattle.measures.specs.Pairs.{pairs}
@@ -44,6 +44,14 @@ by_strands rule g = outcome sums strand_price (λ x. x.value) rule g
 abbrev pub by_trunks : (Kind Pair → (Link → Link → Pair) → Grid → Partial → Pair) → Grid → ℕ × (ℕ × ℕ) × Bool
 by_trunks rule g = outcome pairs trunk_price (λ x. (x.trunk, x.rest)) rule g
 
+-- what the four drawings of a design of two and two switches cost under measure 1
+abbrev pub strand_costs : Grid → ℕ × ℕ × ℕ × ℕ
+strand_costs g =
+    let cost : List ℕ → List ℕ → ℕ = λ left right. (cost_of sums strand_price g (record { left = left; right = right })).value in
+    let up : List ℕ = 0 ∷ (1 ∷ []) in
+    let down : List ℕ = 1 ∷ (0 ∷ []) in
+    (cost up up, cost up down, cost down up, cost down down)
+
 abbrev pub Rows : Type 0
 Rows =
     (unless_above (tree_size 2 2) ≡ Some 11) ×
@@ -53,6 +61,7 @@ Rows =
     ((cost_of sums strand_price crossed (first_rows crossed)).value ≡ 6) ×
     (by_strands settled_price crossed ≡ (5, 0, true)) ×
     (by_strands lesser_price crossed ≡ (5, 0, true)) ×
+    (strand_costs square ≡ (1, 1, 1, 1)) ×
     (by_strands lesser_price square ≡ (3, 1, true)) ×
     (by_strands settled_price square ≡ (7, 1, true)) ×
     (by_strands lesser_price mixed ≡ (3, 1, true)) ×

@@ -1,5 +1,5 @@
 ghost use Rattle.std.specs.Prelude.{◌≡◌};
-ghost use Rattle.walks.specs.Reports.{Reports, AlwaysTrue};
+ghost use Rattle.walks.specs.Reports.{values_of, reported, AlwaysTrue};
 ghost use Rattle.walks.specs.Searches.{walk_of, grid_in};
 ghost use Rattle.walks.specs.Walk.{lower_bound, is_done};
 
@@ -34,8 +34,8 @@ impl<M: Measure> Search<M> {
 
     // What is known so far.
     pub fn report(&self) -> Report<M::Amount>
-        ensures values { Reports M.Amount.Amount.kind (grid_in self.now) (walk_of self.now) result }
-        ensures truth { AlwaysTrue self.now result }
+        ensures values { values_of result ≡ reported M.Amount.Amount.kind (grid_in self.now) (walk_of self.now) }
+        ensures truth { AlwaysTrue self.now (values_of result) }
     {
         let floor = self.floor();
         Report {
