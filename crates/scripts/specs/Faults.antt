@@ -6,7 +6,8 @@ use Rattle.designs.specs.declared.fault.Layer.TheVariants.{Script, Setup, Design
 use Rattle.scripts.specs.declared.fault.SetupFault.{SetupFault}
 use Rattle.scripts.specs.declared.fault.SetupFault.TheVariants.{UnknownMeasure, UnknownRule}
 use Rattle.scripts.specs.declared.fault.SearchFault.{SearchFault}
-use Rattle.scripts.specs.declared.fault.SearchFault.TheVariants.{InRow}
+use Rattle.scripts.specs.declared.fault.SearchFault.TheVariants.{InRow, InRun}
+use Rattle.walks.specs.Runs.{run_number}
 use Rattle.scripts.specs.declared.fault.ScriptFault.{ScriptFault}
 use Rattle.scripts.specs.declared.fault.ScriptFault.TheVariants.{ShortLine, LongScript, UnknownLetter, CutOff, WrongCondition, InSetup, InDesign, InSearch}
 
@@ -16,6 +17,7 @@ setup_number UnknownRule = 7
 
 abbrev pub search_number : SearchFault → ℕ
 search_number (InRow f) = row_number f
+search_number (InRun f) = run_number f
 
 abbrev pub number_of : ScriptFault → ℕ
 number_of (ShortLine p) = 1

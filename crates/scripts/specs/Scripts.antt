@@ -4,14 +4,16 @@ use Rattle.scripts.specs.declared.command.Command.{Command}
 use Rattle.scripts.specs.declared.fault.ScriptFault.{ScriptFault}
 use Rattle.scripts.specs.declared.fault.ScriptFault.TheVariants.{ShortLine, LongScript, UnknownLetter, CutOff, WrongCondition, InSetup, InDesign, InSearch}
 
--- the letters M, D, L, C and O, with the number of bytes of their operands
+-- the letters M, D, L, C, S, O and P, with the number of bytes of their operands
 abbrev pub width_of : ℕ → Option ℕ
 width_of l =
     cond (l == 77) (Some 2)
     (cond (l == 68) (Some 2)
     (cond (l == 76) (Some 4)
     (cond (l == 67) (Some 0)
-    (cond (l == 79) (Some 48) None))))
+    (cond (l == 83) (Some 4)
+    (cond (l == 79) (Some 48)
+    (cond (l == 80) (Some 0) None))))))
 
 abbrev pub with_width : List ℕ → ℕ → Option ℕ → Result Command ScriptFault
 with_width script p None = Err (UnknownLetter p)

@@ -1,5 +1,5 @@
-ghost use Rattle.std.specs.Prelude.{◌≡◌, ◌<◌, ◌≤◌, length, IfOk};
-ghost use Rattle.scripts.specs.Scripts.{width_of, read_command, next_after};
+ghost use Rattle.std.specs.Prelude.{◌≡◌, ◌<◌, ◌≤◌, length, Some, IfOk};
+ghost use Rattle.scripts.specs.Scripts.{width_of, read_command, next_after, operands};
 
 use crate::fault::ScriptFault;
 
@@ -24,8 +24,8 @@ fn operand_width(letter: char) -> Option<usize>
 {
     match letter {
         'M' | 'D' => Some(2),
-        'L' => Some(4),
-        'C' => Some(0),
+        'L' | 'S' => Some(4),
+        'C' | 'P' => Some(0),
         'O' => Some(48),
         _ => None,
     }
@@ -38,6 +38,7 @@ pub fn read_command(script: &[u8], place: usize, room: usize) -> Result<Command,
     ensures place { IfOk result (λ c. c.place ≡ place) }
     ensures forward { IfOk result (λ c. place < c.next) }
     ensures within { IfOk result (λ c. c.next ≤ length script.now) }
+    ensures whole { IfOk result (λ c. width_of c.letter ≡ Some (length (operands script.now c))) }
 {
     if room < LINE {
         return Err(ScriptFault::ShortLine { place });

@@ -1,12 +1,13 @@
 ghost use Rattle.std.specs.Prelude.{◌≡◌};
 ghost use Rattle.scripts.specs.Faults.{setup_number, search_number, number_of, layer_of, place_of};
 ghost use Rattle.scripts.specs.declared.fault.SetupFault.TheVariants.{UnknownRule as NoSuchRule};
-ghost use Rattle.scripts.specs.declared.fault.SearchFault.TheVariants.{InRow};
+ghost use Rattle.scripts.specs.declared.fault.SearchFault.TheVariants.{InRow, InRun};
 ghost use Rattle.scripts.specs.declared.fault.ScriptFault.TheVariants.{InSetup, InDesign, InSearch};
 
 use designs::fault::{DesignFault, Layer, RowFault};
 pub use designs::fault::{Placed, at_place};
 use partials::delivered::UnknownRule;
+use walks::fault::RunFault;
 
 // Why a choice of measure and rule is refused, and the number of each refusal. Told by its number, so no Display; and no
 // trait of numbers, as `as` takes no type parameter.
@@ -21,6 +22,7 @@ pub enum SetupFault {
 #[derive(Clone, Copy, PartialEq, Eq, Debug)]
 pub enum SearchFault {
     InRow(RowFault),
+    InRun(RunFault),
 }
 
 // Why a call is refused. A layer's fault stands beside its place, nested and carried by `?` and From as a project rule asks,
@@ -50,6 +52,14 @@ impl From<RowFault> for SearchFault {
 
     fn from(cause: RowFault) -> SearchFault {
         SearchFault::InRow(cause)
+    }
+}
+
+impl From<RunFault> for SearchFault {
+    ghost from_gives = { λ f r. r ≡ InRun f };
+
+    fn from(cause: RunFault) -> SearchFault {
+        SearchFault::InRun(cause)
     }
 }
 
@@ -91,6 +101,7 @@ impl SearchFault {
     {
         match self {
             SearchFault::InRow(fault) => fault.number(),
+            SearchFault::InRun(fault) => fault.number(),
         }
     }
 }

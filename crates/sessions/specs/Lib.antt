@@ -1,4 +1,10 @@
+pub mod Events
+pub mod Histories
+pub mod Laws
 pub mod Stages
 pub mod Calls
+pub mod Runs
 pub mod Texts
 pub mod Sessions
+pub mod Whole
+pub mod Worked

@@ -1,6 +1,6 @@
 -- The whole session: fresh, or with a measure and a rule, and one call on a line.
 use Rattle.std.specs.Prelude.{ℕ, ◌+◌, cond, List, [], Some, None, Ok, Err, Option, Result, ◌==◌, slice_index}
-use Rattle.std.specs.Result.{result_err, result_map_both}
+use Rattle.std.specs.Result.{result_map_both}
 use Rattle.designs.specs.Results.{on_ok}
 use Rattle.measures.specs.Sums.{sums}
 use Rattle.measures.specs.Pairs.{pairs}
@@ -8,18 +8,22 @@ use Rattle.measures.specs.Prices.{strand_price, trunk_price}
 use Rattle.measures.specs.Writings.{strand_written, trunk_written}
 use Rattle.measures.specs.declared.sum.Sum.{Sum}
 use Rattle.measures.specs.declared.pair.Pair.{Pair}
-use Rattle.measures.specs.declared.strands.ByStrands.{ByStrands as StrandMeasure}
-use Rattle.measures.specs.declared.trunks.ByTrunks.{ByTrunks as TrunkMeasure}
+use Rattle.measures.specs.declared.link.Link.{Link}
+use Rattle.measures.specs.Amounts.{Kind}
+use Rattle.designs.specs.Grids.{Grid}
+use Rattle.partials.specs.Partials.{Partial}
+use Rattle.partials.specs.Rules.{settled_price, lesser_price}
 use Rattle.sessions.specs.Calls.{called}
 use Rattle.scripts.specs.Scripts.{read_command}
 use Rattle.sessions.specs.Stages.{Stage, set, stage_of, Carried}
-use Rattle.sessions.specs.Texts.{refusal_line, answer_line}
+use Rattle.sessions.specs.Events.{refusal_in}
+use Rattle.sessions.specs.Texts.{refusal_line, event_line}
 use Rattle.scripts.specs.declared.command.Command.{Command}
 use Rattle.scripts.specs.declared.fault.SetupFault.{SetupFault}
 use Rattle.scripts.specs.declared.fault.SetupFault.TheVariants.{UnknownMeasure, UnknownRule}
 use Rattle.scripts.specs.declared.fault.ScriptFault.{ScriptFault}
 use Rattle.scripts.specs.declared.fault.ScriptFault.TheVariants.{WrongCondition, InSetup}
-use Rattle.partials.specs.Delivered.{read_rule}
+use Rattle.partials.specs.Delivered.{read_rule, ruled}
 use Rattle.partials.specs.declared.delivered.Rule.{Rule}
 use Rattle.sessions.specs.declared.session.Session.{Session}
 use Rattle.sessions.specs.declared.session.Session.TheVariants.{Fresh, ByStrands, ByTrunks}
@@ -70,11 +74,23 @@ fresh_outcome script (Ok c) =
     (set_up_outcome (placed_set_up c.place (set_up (slice_index script (c.place + 1)) (slice_index script (c.place + 2)))))
     (refusal fresh (WrongCondition c.place))
 
-abbrev pub carried_outcome : {M A : Type 0} → (A → List ℕ) → (Stage A → Whole) → Carried M A → Outcome
-carried_outcome written whole c = record { refused = result_err c.told; bytes = answer_line written c.told; session = whole c.stage }
+-- what a call with a measure that writes its amounts leaves of the whole session
+abbrev pub carried_outcome : {A : Type 0} → (A → List ℕ) → (Stage A → Whole) → Carried A → Outcome
+carried_outcome written whole c = record { refused = refusal_in c.event; bytes = event_line written c.event; session = whole c.stage }
+
+-- what a delivered rule answers of a partial drawing
+abbrev pub answers : {A : Type 0} → Kind A → (Link → Link → A) → Rule → Grid → Partial → A
+answers K priced rule g p = ruled rule (settled_price K priced g p) (lesser_price K priced g p)
+
+-- one call on values, with measure 1 or with measure 2
+abbrev pub called_by_strands : Rule → Stage Sum → List ℕ → ℕ → ℕ → Carried Sum
+called_by_strands rule s script p room = called sums strand_price (answers sums strand_price rule) s script p room
+
+abbrev pub called_by_trunks : Rule → Stage Pair → List ℕ → ℕ → ℕ → Carried Pair
+called_by_trunks rule s script p room = called pairs trunk_price (answers pairs trunk_price rule) s script p room
 
 -- one call: script, byte, and how long the line is
 abbrev pub outcome : Whole → List ℕ → ℕ → ℕ → Outcome
 outcome fresh script p room = fresh_outcome script (read_command script p room)
-outcome (by_strands r s) script p room = carried_outcome strand_written (by_strands r) (called {M = StrandMeasure} sums strand_price s script p room)
-outcome (by_trunks r s) script p room = carried_outcome trunk_written (by_trunks r) (called {M = TrunkMeasure} pairs trunk_price s script p room)
+outcome (by_strands rule s) script p room = carried_outcome strand_written (by_strands rule) (called_by_strands rule s script p room)
+outcome (by_trunks rule s) script p room = carried_outcome trunk_written (by_trunks rule) (called_by_trunks rule s script p room)

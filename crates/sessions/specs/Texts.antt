@@ -1,11 +1,12 @@
 -- The lines that a call writes. Fields are parted by a space (32), and a line ends with byte 10.
-use Rattle.std.specs.Prelude.{◌≡◌, ℕ, Bool, cond, List, [], ◌∷◌, ◌++◌, length, drop, Ok, Err, codes, decimal, Result, nat_lt}
+use Rattle.std.specs.Prelude.{◌≡◌, ℕ, Bool, cond, List, [], ◌∷◌, ◌++◌, length, drop, Some, None, Option, codes, decimal, nat_lt}
 use Rattle.designs.specs.declared.fault.Layer.{Layer}
 use Rattle.designs.specs.declared.fault.Layer.TheVariants.{Script, Setup, Design, Search}
 use Rattle.scripts.specs.Faults.{number_of, layer_of, place_of}
 use Rattle.scripts.specs.declared.fault.ScriptFault.{ScriptFault}
-use Rattle.sessions.specs.declared.telling.Telling.{Telling}
-use Rattle.sessions.specs.declared.telling.Telling.TheVariants.{Sized, Linked, Closed, Offered}
+use Rattle.walks.specs.Reports.{Values}
+use Rattle.sessions.specs.Events.{Event}
+use Rattle.sessions.specs.Events.Event.{sized, linked, closed, searched, offered, reported, refused}
 
 abbrev pub layer_name : Layer → List ℕ
 layer_name Script = codes "script"
@@ -25,16 +26,38 @@ refusal_line f = field (codes "refused") 32 ++ (field (decimal (number_of f)) 32
 abbrev pub offer_word : Bool → List ℕ
 offer_word taken = cond taken (codes "taken") (codes "kept")
 
--- the line of what a command told; M, D, L and C write nothing
-abbrev pub told_line : {M A : Type 0} → (A → List ℕ) → Telling M A → List ℕ
-told_line written (Sized n m) = []
-told_line written (Linked a b l) = []
-told_line written Closed = []
-told_line written (Offered taken cost) = field (offer_word taken) 32 ++ field (written cost) 10
+-- the switches of a row, parted by commas (44)
+abbrev pub more_switches : List ℕ → List ℕ
+more_switches [] = []
+more_switches (s ∷ row) = 44 ∷ (decimal s ++ more_switches row)
 
-abbrev pub answer_line : {M A : Type 0} → (A → List ℕ) → Result (Telling M A) ScriptFault → List ℕ
-answer_line written (Ok t) = told_line written t
-answer_line written (Err f) = refusal_line f
+abbrev pub row_text : List ℕ → List ℕ
+row_text [] = []
+row_text (s ∷ row) = decimal s ++ more_switches row
+
+abbrev pub done_word : Bool → List ℕ
+done_word done = cond done (codes "done") (codes "open")
+
+-- a tree's size, or a dash where it is not told
+abbrev pub size_text : Option ℕ → List ℕ
+size_text None = codes "-"
+size_text (Some size) = decimal size
+
+-- done or open, the nodes opened, the best cost, the floor, the tree's size, the left row and the right row
+abbrev pub report_line : {A : Type 0} → (A → List ℕ) → Values A → List ℕ
+report_line written v =
+    field (done_word v.done) 32 ++ (field (decimal v.opened) 32 ++ (field (written v.cost) 32 ++ (field (written v.floor) 32 ++
+    (field (size_text v.size) 32 ++ (field (row_text v.drawing.left) 32 ++ field (row_text v.drawing.right) 10)))))
+
+-- the line of what a call told; an accepted D, L or C writes nothing
+abbrev pub event_line : {A : Type 0} → (A → List ℕ) → Event A → List ℕ
+event_line written (sized n m) = []
+event_line written (linked a b l) = []
+event_line written closed = []
+event_line written (searched asked opened) = field (codes "opened") 32 ++ field (decimal opened) 10
+event_line written (offered taken cost) = field (offer_word taken) 32 ++ field (written cost) 10
+event_line written (reported v) = report_line written v
+event_line written (refused f) = refusal_line f
 
 -- a line with room for fewer than 256 bytes is left untouched
 abbrev pub if_room : ℕ → List ℕ → List ℕ

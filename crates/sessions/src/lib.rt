@@ -2,7 +2,7 @@
 
 pub mod measured;
 pub mod rule;
-pub mod search;
 pub mod session;
 pub mod telling;
+pub mod worked;
 pub mod writing;

@@ -1,9 +1,10 @@
-use crate::search::Search;
 use designs::design::Design;
 use measures::measure::Measure;
+use walks::walk::Search;
 
 pub mod calling;
 pub mod carrying;
+mod commands;
 
 // What a session that has a measure and a rule is doing.
 #[derive(Drop)]

@@ -48,17 +48,17 @@ impl Met {
 
 // A design, the same links as a plain list, and what each of its drawings costs.
 #[derive(Drop)]
-struct Trial {
-    heap: Global,
+pub struct Trial {
+    pub heap: Global,
     design: Design,
-    links: Vec<PlainLink>,
-    sizes: Sizes,
+    pub links: Vec<PlainLink>,
+    pub sizes: Sizes,
     prices: Vec<Price>,
 }
 
 impl Trial {
     // One to four switches a side, a single one less often.
-    fn new(heap: Global, seed: &mut Seed) -> Result<Trial, Fail> {
+    pub fn new(heap: Global, seed: &mut Seed) -> Result<Trial, Fail> {
         let sizes = Sizes {
             left: seed.below(7).wrapping_add(3) / 2,
             right: seed.below(7).wrapping_add(3) / 2,
@@ -79,12 +79,12 @@ impl Trial {
         })
     }
 
-    fn cost<M: Keyed>(&self, rows: &Rows) -> Key {
+    pub fn cost<M: Keyed>(&self, rows: &Rows) -> Key {
         M::of(rows.cost(self.links.as_slice()))
     }
 
     // What the first report of a walk says, but for its floor and whether the walk is done.
-    fn start<M: Keyed>(&self) -> Result<Seen, AllocError> {
+    pub fn start<M: Keyed>(&self) -> Result<Seen, AllocError> {
         let rows = self.sizes.first_rows(self.heap)?;
         Ok(Seen {
             done: false,
@@ -100,7 +100,7 @@ impl Trial {
     }
 
     // The least cost of all drawings.
-    fn least<M: Keyed>(&self) -> Result<Key, Fail> {
+    pub fn least<M: Keyed>(&self) -> Result<Key, Fail> {
         let costs = self.prices.iter().map(|price| M::of(*price));
         Ok(costs.min().ok_or("no drawing")?)
     }

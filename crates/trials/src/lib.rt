@@ -13,6 +13,8 @@ mod plain;
 #[cfg(test)]
 mod playing;
 #[cfg(test)]
+mod reports;
+#[cfg(test)]
 mod seen;
 #[cfg(test)]
 mod worked;

@@ -8,15 +8,15 @@ const UNTOUCHED: u8 = 7;
 
 // What came of a call: the number of its refusal, if it was refused, the next command's byte, and what it wrote.
 #[derive(Drop)]
-struct Outcome {
-    refused: Option<u8>,
-    next: usize,
-    text: Vec<u8>,
+pub struct Outcome {
+    pub refused: Option<u8>,
+    pub next: usize,
+    pub text: Vec<u8>,
 }
 
 impl Outcome {
     // Expected texts are slices, and an Outcome owns its text: so each field is compared.
-    fn check(
+    pub fn check(
         &self,
         rt: &impl Abort,
         refused: Option<u8>,
@@ -32,13 +32,13 @@ impl Outcome {
 
 // A session that is called as the program calls it, and in other ways.
 #[derive(Drop)]
-struct Player<'a, R> {
-    rt: &'a R,
+pub struct Player<'a, R> {
+    pub rt: &'a R,
     session: Session,
 }
 
 impl<'a, R: Abort + AllocGlobal> Player<'a, R> {
-    fn new(rt: &'a R) -> Player<'a, R> {
+    pub fn new(rt: &'a R) -> Player<'a, R> {
         Player {
             rt,
             session: Session::new(),
@@ -47,7 +47,7 @@ impl<'a, R: Abort + AllocGlobal> Player<'a, R> {
 
     // Calls the session on a line of this length, which is unchanged behind the text. Three parameters, as in the call that
     // is tested.
-    fn call(&mut self, script: &[u8], place: usize, room: usize) -> Result<Outcome, Fail> {
+    pub fn call(&mut self, script: &[u8], place: usize, room: usize) -> Result<Outcome, Fail> {
         let mut line = vec![in self.rt.alloc(); UNTOUCHED; room]?;
         let answer = self.session.call(script, place, line.as_mut_slice());
         let (text, behind) = line
@@ -65,7 +65,7 @@ impl<'a, R: Abort + AllocGlobal> Player<'a, R> {
     // Plays a script as the program does, call after call: the text of all lines, and the last call's refusal and next
     // byte. A script of so many bytes has at most as many commands, and a `while` would not be known to end: where the line
     // is too short, the place stays.
-    fn play(&mut self, script: &[u8], room: usize) -> Result<Outcome, Fail> {
+    pub fn play(&mut self, script: &[u8], room: usize) -> Result<Outcome, Fail> {
         let mut all = Outcome {
             refused: None,
             next: 0,
@@ -160,11 +160,11 @@ const STARTS: [Start; 7] = [
     },
     Start {
         script: b"M\x01\x01D\x02\x02L\x00\x01\x02\x00L\x01\x00\x03\x00C",
-        takes: b"DO",
+        takes: b"DSOP",
     },
     Start {
         script: b"M\x02\x02D\x02\x02L\x00\x01\x02\x00L\x01\x00\x03\x01C",
-        takes: b"DO",
+        takes: b"DSOP",
     },
 ];
 
@@ -211,7 +211,7 @@ struct Command {
     zeros: Option<u8>,
 }
 
-const COMMANDS: [Command; 5] = [
+const COMMANDS: [Command; 7] = [
     Command {
         letter: b'M',
         width: 2,
@@ -233,9 +233,19 @@ const COMMANDS: [Command; 5] = [
         zeros: None,
     },
     Command {
+        letter: b'S',
+        width: 4,
+        zeros: Some(13),
+    },
+    Command {
         letter: b'O',
         width: 48,
         zeros: Some(15),
+    },
+    Command {
+        letter: b'P',
+        width: 0,
+        zeros: None,
     },
 ];
 
@@ -271,11 +281,11 @@ fn operands(rt: HostRuntime) -> Result<(), Fail> {
     Ok(())
 }
 
-// Every byte that is no letter, among them 'm', 'S' and 'P', alone and with more behind it.
+// Every byte that is no letter, among them 'm', 'F' and 'V', alone and with more behind it.
 #[test]
 fn unknown_letters(rt: HostRuntime) -> Result<(), Fail> {
     for start in &STARTS {
-        for byte in (0..=255u8).filter(|byte| !b"MDLCO".contains(byte)) {
+        for byte in (0..=255u8).filter(|byte| !b"MDLCSOP".contains(byte)) {
             start.then_refused(&rt, &[byte], 3)?;
             start.then_refused(&rt, &[byte, b'M', 1, 1, b'C'], 3)?;
         }
@@ -362,11 +372,49 @@ const TRADE: &[u8] = b"D\x03\x02L\x00\x01\x01\x01L\x01\x00\x01\x00L\x02\x01\xff\
 // Two full cells in the corners of the largest design.
 const CORNERS: &[u8] = b"D\x18\x18L\x00\x17\xff\x01L\x17\x00\xff\x00C";
 
+// Crossings for 1, a trunk's, in number order, and for 6 with one row turned.
+const MIXED: &[u8] =
+    b"D\x02\x02L\x00\x00\x03\x00L\x01\x00\x01\x00L\x00\x01\x01\x01L\x01\x01\x02\x00C";
+
+// A link in each cell. No drawing costs less than number order, and rule 2 finds it late.
+const EVERY_CELL: &[u8] = b"D\x03\x02L\x00\x00\x01\x00L\x00\x01\x01\x00L\x01\x00\x02\x00\
+    L\x01\x01\x02\x00L\x02\x00\x02\x00L\x02\x01\x03\x00C";
+
 const SET_1: &[u8] = b"M\x01\x01";
+
+const SET_1_LESSER: &[u8] = b"M\x01\x02";
+
+const SET_2_SETTLED: &[u8] = b"M\x02\x01";
 
 const SET_2: &[u8] = b"M\x02\x02";
 
-const CASES: [Case; 20] = [
+// A link to a design that is closed.
+const LATE_LINK: &[u8] = b"L\x00\x00\x01\x00";
+
+// Nodes to open.
+const NO_NODES: &[u8] = b"S\x00\x00\x00\x00";
+
+const ONE: &[u8] = b"S\x00\x00\x00\x01";
+
+const THREE: &[u8] = b"S\x00\x00\x00\x03";
+
+const FOUR: &[u8] = b"S\x00\x00\x00\x04";
+
+const SIX: &[u8] = b"S\x00\x00\x00\x06";
+
+const FIFTY: &[u8] = b"S\x00\x00\x00\x32";
+
+const HUNDRED: &[u8] = b"S\x00\x00\x00\x64";
+
+const MILLION: &[u8] = b"S\x00\x0f\x42\x40";
+
+const ABOVE_MILLION: &[u8] = b"S\x00\x0f\x42\x41";
+
+const MOST_NODES: &[u8] = b"S\xff\xff\xff\xff";
+
+const REPORT: &[u8] = b"P";
+
+const CASES: [Case; 37] = [
     Case {
         pieces: &[],
         room: 256,
@@ -506,6 +554,194 @@ const CASES: [Case; 20] = [
         text: b"taken 0\nrefused 5 script 66\n",
         refused: Some(5),
         next: 69,
+    },
+    Case {
+        pieces: &[
+            SET_1_LESSER,
+            PLAIN,
+            REPORT,
+            FOUR,
+            REPORT,
+            LATE_LINK,
+            HUNDRED,
+            REPORT,
+            MIXED,
+            REPORT,
+        ],
+        room: 256,
+        text: b"open 0 6 0 11 0,1 0,1\nopened 4\nopen 4 6 0 11 0,1 0,1\nrefused 5 script 24\n\
+            opened 1\ndone 5 0 0 11 0,1 1,0\nopen 0 1 0 11 0,1 0,1\n",
+        refused: None,
+        next: 60,
+    },
+    Case {
+        pieces: &[SET_1, MIXED, HUNDRED, REPORT],
+        room: 256,
+        text: b"opened 7\ndone 7 1 1 11 0,1 0,1\n",
+        refused: None,
+        next: 33,
+    },
+    Case {
+        pieces: &[SET_1_LESSER, MIXED, HUNDRED, REPORT],
+        room: 256,
+        text: b"opened 3\ndone 3 1 1 11 0,1 0,1\n",
+        refused: None,
+        next: 33,
+    },
+    Case {
+        pieces: &[SET_2_SETTLED, MIXED, HUNDRED, REPORT],
+        room: 256,
+        text: b"opened 8\ndone 8 0/6 0/6 11 0,1 1,0\n",
+        refused: None,
+        next: 33,
+    },
+    Case {
+        pieces: &[SET_2, MIXED, HUNDRED, REPORT],
+        room: 256,
+        text: b"opened 6\ndone 6 0/6 0/6 11 0,1 1,0\n",
+        refused: None,
+        next: 33,
+    },
+    Case {
+        pieces: &[
+            SET_2, MIXED, REPORT, ONE, REPORT, ONE, REPORT, ONE, REPORT, ONE, REPORT, ONE, REPORT,
+            ONE, REPORT, ONE, REPORT,
+        ],
+        room: 256,
+        text: b"open 0 1/0 0/0 11 0,1 0,1\nopened 1\nopen 1 1/0 0/0 11 0,1 0,1\nopened 1\n\
+            open 2 1/0 0/0 11 0,1 0,1\nopened 1\nopen 3 1/0 0/0 11 0,1 0,1\nopened 1\n\
+            open 4 1/0 0/0 11 0,1 0,1\nopened 1\nopen 5 0/6 0/0 11 0,1 1,0\nopened 1\n\
+            done 6 0/6 0/6 11 0,1 1,0\nopened 0\ndone 6 0/6 0/6 11 0,1 1,0\n",
+        refused: None,
+        next: 70,
+    },
+    Case {
+        pieces: &[
+            SET_2_SETTLED,
+            MIXED,
+            THREE,
+            REPORT,
+            BOTH_TURNED,
+            TURNED,
+            REPORT,
+            HUNDRED,
+            REPORT,
+            ORDER,
+            REPORT,
+        ],
+        room: 256,
+        text: b"opened 3\nopen 3 1/0 0/0 11 0,1 0,1\nkept 1/0\ntaken 0/6\nopen 3 0/6 0/0 11 0,1 1,0\n\
+            opened 4\ndone 7 0/6 0/6 11 0,1 1,0\nkept 1/0\ndone 7 0/6 0/6 11 0,1 1,0\n",
+        refused: None,
+        next: 188,
+    },
+    Case {
+        pieces: &[SET_1_LESSER, EVERY_CELL, SIX, REPORT, HUNDRED, REPORT],
+        room: 256,
+        text: b"opened 6\nopen 6 8 2 33 0,1,2 0,1\nopened 3\ndone 9 8 8 33 0,1,2 0,1\n",
+        refused: None,
+        next: 49,
+    },
+    Case {
+        pieces: &[SET_1, PLAIN, TURNED, REPORT, HUNDRED, REPORT],
+        room: 256,
+        text: b"taken 0\ndone 0 0 0 11 0,1 1,0\nopened 0\ndone 0 0 0 11 0,1 1,0\n",
+        refused: None,
+        next: 73,
+    },
+    Case {
+        pieces: &[
+            SET_2, PLAIN, THREE, REPORT, MIXED, REPORT, HUNDRED, REPORT, PLAIN, REPORT,
+        ],
+        room: 256,
+        text: b"opened 3\nopen 3 0/6 0/0 11 0,1 0,1\nopen 0 1/0 0/0 11 0,1 0,1\nopened 6\n\
+            done 6 0/6 0/6 11 0,1 1,0\nopen 0 0/6 0/0 11 0,1 0,1\n",
+        refused: None,
+        next: 69,
+    },
+    Case {
+        pieces: &[
+            SET_1_LESSER,
+            PLAIN,
+            FOUR,
+            REPORT,
+            NO_NODES,
+            ABOVE_MILLION,
+            MOST_NODES,
+            REPORT,
+            MILLION,
+            NO_NODES,
+            ABOVE_MILLION,
+            REPORT,
+        ],
+        room: 256,
+        text: b"opened 4\nopen 4 6 0 11 0,1 0,1\nrefused 13 search 23\nrefused 13 search 28\n\
+            refused 13 search 33\nopen 4 6 0 11 0,1 0,1\nopened 1\nrefused 13 search 44\n\
+            refused 13 search 49\ndone 5 0 0 11 0,1 1,0\n",
+        refused: None,
+        next: 55,
+    },
+    Case {
+        pieces: &[
+            REPORT,
+            ONE,
+            SET_1,
+            REPORT,
+            ONE,
+            b"D\x02\x02",
+            REPORT,
+            NO_NODES,
+            b"C",
+            REPORT,
+        ],
+        room: 256,
+        text: b"refused 5 script 0\nrefused 5 script 1\nrefused 5 script 9\nrefused 5 script 10\n\
+            refused 5 script 18\nrefused 5 script 19\ndone 0 0 0 11 0,1 0,1\n",
+        refused: None,
+        next: 26,
+    },
+    Case {
+        pieces: &[SET_1, b"D\x18\x18C", REPORT, MILLION, REPORT],
+        room: 256,
+        text: b"done 0 0 0 - 0,1,2,3,4,5,6,7,8,9,10,11,12,13,14,15,16,17,18,19,20,21,22,23 \
+            0,1,2,3,4,5,6,7,8,9,10,11,12,13,14,15,16,17,18,19,20,21,22,23\nopened 0\ndone 0 0 0 - \
+            0,1,2,3,4,5,6,7,8,9,10,11,12,13,14,15,16,17,18,19,20,21,22,23 \
+            0,1,2,3,4,5,6,7,8,9,10,11,12,13,14,15,16,17,18,19,20,21,22,23\n",
+        refused: None,
+        next: 14,
+    },
+    Case {
+        pieces: &[SET_2, CORNERS, FIFTY, REPORT, MILLION, REPORT],
+        room: 256,
+        text: b"opened 50\nopen 50 65025/0 0/0 - \
+            0,1,2,3,4,5,6,7,8,9,10,11,12,13,14,15,16,17,18,19,20,21,22,23 \
+            0,1,2,3,4,5,6,7,8,9,10,11,12,13,14,15,16,17,18,19,20,21,22,23\nopened 21\n\
+            done 71 0/0 0/0 - 0,1,2,3,4,5,6,7,8,9,10,11,12,13,14,15,16,17,18,19,20,21,22,23 \
+            1,2,3,4,5,6,7,8,9,10,11,12,13,14,15,16,17,18,19,20,21,22,23,0\n",
+        refused: None,
+        next: 29,
+    },
+    Case {
+        pieces: &[SET_1, CORNERS, TURNED_24, REPORT],
+        room: 256,
+        text: b"taken 0\ndone 0 0 0 - 0,1,2,3,4,5,6,7,8,9,10,11,12,13,14,15,16,17,18,19,20,21,22,23 \
+            23,22,21,20,19,18,17,16,15,14,13,12,11,10,9,8,7,6,5,4,3,2,1,0\n",
+        refused: None,
+        next: 67,
+    },
+    Case {
+        pieces: &[SET_1, b"D\x0c\x01C", REPORT],
+        room: 256,
+        text: b"done 0 0 0 - 0,1,2,3,4,5,6,7,8,9,10,11 0\n",
+        refused: None,
+        next: 8,
+    },
+    Case {
+        pieces: &[SET_2_SETTLED, b"D\x0b\x01C", REPORT],
+        room: 256,
+        text: b"done 0 0/0 0/0 83871513 0,1,2,3,4,5,6,7,8,9,10 0\n",
+        refused: None,
+        next: 8,
     },
 ];
 

@@ -1,20 +1,33 @@
 ghost use Rattle.std.specs.Prelude.{◌≡◌, length, Some, OnErr};
 ghost use Rattle.scripts.specs.Scripts.{width_of};
-ghost use Rattle.sessions.specs.Stages.{stage_of, carried};
+ghost use Rattle.sessions.specs.Events.{event_of};
+ghost use Rattle.sessions.specs.Stages.{stage_of, size_step, carried};
 
+use super::commands::{offer_drawing, put_link, read_design, run_search};
 use super::{Condition, MeasuredSession};
-use crate::search::Search;
 use crate::telling::Telling;
-use designs::design::Design;
-use designs::drawing::Drawing;
-use measures::link::Link;
 use measures::measure::Measure;
-use scripts::fault::{ScriptFault, SearchFault, at_place};
+use partials::rule::BoundingRule;
+use scripts::fault::ScriptFault;
+use walks::walk::Search;
 
-impl<M: Measure, R: Drop> MeasuredSession<M, R> {
-    // Carries out a command that has all its operands. They are taken by place: a slice pattern would need an else that is
-    // never reached. That a refusal changes nothing, and no call the rule, is promised by each call for itself: it compares
-    // before with after, which no field can say.
+impl<M: Measure, R: BoundingRule<M> + Drop> MeasuredSession<M, R> {
+    // D: begins a design, whatever is held.
+    fn begin_design(&mut self, place: usize, operands: &[u8]) -> Result<Telling<M>, ScriptFault>
+        requires { length operands.now ≡ 2 }
+        ensures told { event_of result ≡ (size_step (stage_of self.old.condition) place operands.now).event }
+        ensures stage { stage_of self.new.condition ≡ (size_step (stage_of self.old.condition) place operands.now).stage }
+        ensures refused { OnErr result (self.new ≡ self.old) }
+        ensures rule { self.new.rule ≡ self.old.rule }
+    {
+        let design = read_design(place, operands)?;
+        self.condition = Condition::Filling(design);
+        let (left, right) = (operands[0], operands[1]);
+        Ok(Telling::Sized { left, right })
+    }
+
+    // Carries out a command that has all its operands. That a refusal changes nothing, and no call the rule, is promised by
+    // each call for itself: it compares before with after, which no field can say.
     pub(super) fn carry_out(
         &mut self,
         letter: char,
@@ -22,38 +35,27 @@ impl<M: Measure, R: Drop> MeasuredSession<M, R> {
         operands: &[u8],
     ) -> Result<Telling<M>, ScriptFault>
         requires { width_of letter ≡ Some (length operands.now) }
-        ensures told { result ≡ (carried M.Amount.Amount.kind M.Measure.priced (stage_of self.old.condition) letter place operands.now).told }
-        ensures stage { stage_of self.new.condition ≡ (carried {M = M} M.Amount.Amount.kind M.Measure.priced (stage_of self.old.condition) letter place operands.now).stage }
+        ensures told { event_of result ≡ (carried M.Amount.Amount.kind M.Measure.priced (R.BoundingRule.answered self.old.rule) (stage_of self.old.condition) letter place operands.now).event }
+        ensures stage { stage_of self.new.condition ≡ (carried M.Amount.Amount.kind M.Measure.priced (R.BoundingRule.answered self.old.rule) (stage_of self.old.condition) letter place operands.now).stage }
         ensures refused { OnErr result (self.new ≡ self.old) }
         ensures rule { self.new.rule ≡ self.old.rule }
     {
-        // Matched together, as a project rule asks.
+        // Matched together, as a project rule asks. No arm joins two: tried, and of what `|` or a last `_` meets, too little is
+        // known to prove that the session stays.
         match (&mut self.condition, letter) {
-            (Condition::Set | Condition::Searching(_), 'D') => {
-                let (left, right) = (operands[0], operands[1]);
-                let design = at_place(Design::empty(left, right), place)?;
-                self.condition = Condition::Filling(design);
-                Ok(Telling::Sized { left, right })
-            }
-            (Condition::Filling(design), 'L') => {
-                let (left, right, strands) = (operands[0], operands[1], operands[2]);
-                let linked = design.link(left, right, strands, operands[3]);
-                let class = at_place(linked, place)?;
-                let link = Link { strands, class };
-                Ok(Telling::Linked { left, right, link })
-            }
+            (Condition::Set, 'D') => self.begin_design(place, operands),
+            (Condition::Searching(_), 'D') => self.begin_design(place, operands),
+            (Condition::Filling(design), 'L') => put_link(design, place, operands),
             (Condition::Filling(design), 'C') => {
-                self.condition = Condition::Searching(Search::start(*design));
+                self.condition = Condition::Searching(Search::start(*design, &self.rule));
                 Ok(Telling::Closed)
             }
-            (Condition::Searching(search), 'O') => {
-                let read = Drawing::read(&search.design, operands).map_err(SearchFault::from);
-                let drawing = at_place(read, place)?;
-                let cost = search.design.cost::<M>(&drawing);
-                let taken = search.offer(drawing, cost);
-                Ok(Telling::Offered { taken, cost })
-            }
-            _ => Err(ScriptFault::WrongCondition { place }),
+            (Condition::Searching(search), 'S') => run_search(search, &self.rule, place, operands),
+            (Condition::Searching(search), 'O') => offer_drawing(search, place, operands),
+            (Condition::Searching(search), 'P') => Ok(Telling::Reported(search.report())),
+            (Condition::Set, _) => Err(ScriptFault::WrongCondition { place }),
+            (Condition::Filling(_), _) => Err(ScriptFault::WrongCondition { place }),
+            (Condition::Searching(_), _) => Err(ScriptFault::WrongCondition { place }),
         }
     }
 }

@@ -1,0 +1,10 @@
+use Rattle.std.proofs.Common.{rules}
+use Rattle.sessions.specs.Sessions.{whole_of}
+use Rattle.sessions.proofs.Wholes.{calls_lawfully}
+use Rattle.sessions.proofs.session.Session.call.Goals as goal
+
+pub returns-in-Err-clause-law : goal.returns-in-Err-clause-law
+returns-in-Err-clause-law c = calls_lawfully (whole_of c.args.self.now) _ c.args.line.now _ _ c.args.script.now c.args.place (search rules) (search rules) (search rules)
+
+pub returns-in-Ok-set_up_at-clause-law : goal.returns-in-Ok-set_up_at-clause-law
+returns-in-Ok-set_up_at-clause-law c = calls_lawfully (whole_of c.args.self.now) _ c.args.line.now _ _ c.args.script.now c.args.place (search rules) (search rules) (search rules)
