@@ -3,7 +3,7 @@ use Rattle.std.specs.Prelude.{◌≡◌, ℕ, ◌+◌, ◌<◌, cond, ◌&&◌, 
 use Rattle.measures.specs.Classes.{class_numbered, either_class}
 use Rattle.measures.specs.Prices.{is_trunk}
 use Rattle.measures.specs.declared.link.Class.{Class}
-use Rattle.measures.specs.declared.link.Class.TheVariants.{Ordinary, Trunk}
+use Rattle.measures.specs.declared.link.Class.TheVariants.{Ordinary}
 use Rattle.designs.specs.Cells.{index, cell_at}
 use Rattle.designs.specs.Sides.{is_size}
 use Rattle.designs.specs.declared.cell.Cell.{Cell}

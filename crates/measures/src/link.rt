@@ -29,6 +29,13 @@ impl TryFrom<u8> for Class {
 }
 
 impl Class {
+    // The number by which a script names the class: it is read back as this class.
+    pub fn number(self) -> u8
+        ensures { read_class result ≡ Ok self }
+    {
+        self as u8
+    }
+
     pub fn is_trunk(self) -> bool
         ensures { result ≡ is_trunk self }
     {

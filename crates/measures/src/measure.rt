@@ -9,6 +9,9 @@ use arrayvec::ArrayString;
 // The longest amount has this many bytes.
 pub const LONGEST_AMOUNT: usize = 41;
 
+// Two numbers of 20 figures and a slash.
+const _: () = prove!(LONGEST_AMOUNT == 20 + 1 + 20);
+
 // What a crossing of two links costs, and in which kind of amount it is counted. Definitions take the kind and the prices
 // apart, since the laws of amounts speak of the kind alone.
 pub trait Measure {

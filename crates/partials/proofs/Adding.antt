@@ -1,13 +1,9 @@
 -- What a node keeps when a right switch is added.
-use Rattle.std.proofs.Common.{◌≡◌, ℕ, ◌+◌, ◌-◌, ◌<◌, ◌≤◌, List, [], ◌∷◌, ◌++◌, length, get_or, take, drop, set, sym, ap, ◌∙◌, subst, ⊎_elim, append_assoc, arith, All}
-use Rattle.std.proofs.Math.Seq.{paste, take-set-lt, take-take}
-use Rattle.std.proofs.lemmas.List.{drop-take, length-drop, length-take-le, set_at, take_more}
-use Rattle.std.proofs.lemmas.List.Edits.{take-paste}
+use Rattle.std.proofs.Common.{◌≡◌, ℕ, ◌<◌, ◌≤◌, List, [], ◌∷◌, ◌++◌, subst, ⊎_elim, arith, All}
 use Rattle.std.proofs.lemmas.Bool.{cases_eq}
 use Rattle.designs.specs.Rows.{times}
 use Rattle.partials.specs.Belows.{times_here, times_else}
 use Rattle.designs.proofs.Orders.{times-append}
-use Rattle.partials.specs.Tree.{put_at}
 use Rattle.partials.specs.Nodes.{partial_of}
 use Rattle.partials.specs.declared.node.Node.{Node}
 use Rattle.std.proofs.lemmas.List.Elements.{All-from_get_or, All-take}

@@ -105,13 +105,6 @@ tree_counted g p v e f =
     let h : height g p ≡ g.lefts + g.rights = omega arith in
     ap (λ n. nodes_to n g p) h ∙ (size_left g.lefts g p v (omega arith) f ∙ ap (λ k. left_size g.rights k g.lefts) z)
 
--- the tree with the left row given
-pub right_tree_counted : (g : Grid) (p : Partial) → PartialOf g p → length p.placed ≡ g.lefts → p.prefix ≡ [] → nodes_below g p ≡ right_size g.rights
-right_tree_counted g p v e f =
-    let y = ap length f in
-    let h : height g p ≡ g.rights = omega arith in
-    ap (λ n. nodes_to n g p) h ∙ size_right g.rights g p v e (omega arith)
-
 -- the nodes below a node are its children and the nodes below them
 pub nodes_step : (g : Grid) (p : Partial) → PartialOf g p → nodes_under (nodes_below g) (children g p) ≡ nodes_below g p
 nodes_step g p v = step (height g p) refl

@@ -1,9 +1,10 @@
 -- Why every history of a session keeps the law.
-use Rattle.std.proofs.Common.{◌≡◌, ℕ, ◌+◌, ◌-◌, List, ◌∷◌, Ok, Err, Result, All, sym, refl, ap, ◌∙◌, subst, arith}
+use Rattle.std.proofs.Common.{◌≡◌, ℕ, ◌+◌, ◌-◌, List, ◌∷◌, Ok, Err, Result, All, sym, refl, ap, ◌∙◌, subst, arith, true}
 use Rattle.std.specs.Prelude.{◌&&◌, ◌==◌, slice_index}
+use Rattle.std.specs.List.{list_any}
 use Rattle.std.proofs.lemmas.Bool.{cond_both}
 use Rattle.std.proofs.lemmas.List.Elements.{All-nil, All-cons, All-weaker}
-use Rattle.measures.specs.Amounts.{Kind, Lawful}
+use Rattle.measures.specs.Amounts.{Kind, Lawful, AtMost}
 use Rattle.measures.specs.declared.link.Class.{Class}
 use Rattle.measures.specs.declared.link.Link.{Link}
 use Rattle.designs.specs.Grids.{Grid, with_link}
@@ -32,7 +33,7 @@ use Rattle.scripts.specs.declared.fault.ScriptFault.{ScriptFault}
 use Rattle.sessions.specs.Calls.{called, carried_command}
 use Rattle.sessions.specs.Events.{Event}
 use Rattle.sessions.specs.Events.Event.{sized, linked, closed, searched, offered, reported, refused}
-use Rattle.sessions.specs.Histories.{History, since_closing, in_hand, closed_last, opened_by, opened_in}
+use Rattle.sessions.specs.Histories.{History, is_closing, since_closing, in_hand, closed_last, opened_by, opened_in}
 use Rattle.sessions.specs.Laws.{Agrees, TrueOf, Keeps, KeepsTheLaw}
 use Rattle.sessions.specs.Runs.{LeadsTo, GoesOnLawfully}
 use Rattle.sessions.specs.Runs.LeadsTo.{starts, calls}
@@ -47,6 +48,7 @@ module _ {A : Type 0} (K : Kind A) (laws : Lawful K) (priced : Link → Link →
   -- a session that searches holds the design closed last and a walk of it, whose report would agree with what was told
   record Searches (h : History A) (g : Grid) (w : Walk A) : Type 0 where
     pub closed : closed_last h ≡ g
+    pub behind : list_any is_closing h ≡ true
     pub reached : Reached K g (cost g) (answered g) nothing_placed w
     pub opened : w.opened ≡ opened_in (since_closing h)
     pub agrees : All (Agrees K (report_on K g w)) (since_closing h)
@@ -68,15 +70,16 @@ module _ {A : Type 0} (K : Kind A) (laws : Lawful K) (priced : Link → Link →
   agrees_later g w v s (linked x y l) a = tt {0}
   agrees_later g w v s closed a = tt {0}
   agrees_later g w v s (searched asked opened) a = λ l. done_stays K laws g (cost g) (answered g) (bounds g) nothing_placed w v s (a l)
-  agrees_later g w v s (offered taken c) a = tt {0}
-  agrees_later g w v s (reported r) a = (laws.trans _ _ _ a.0 s.higher, laws.trans _ _ _ s.cheaper a.1)
+  agrees_later g w v s (offered taken c) a = laws.trans _ _ _ s.cheaper a
+  agrees_later g w v s (reported r) a = (laws.trans _ _ _ a.0 s.higher, laws.trans _ _ _ s.cheaper a.1, λ l. done_stays K laws g (cost g) (answered g) (bounds g) nothing_placed w v s (a.2 l))
   agrees_later g w v s (refused f) a = tt {0}
 
   -- an event that is no closing, beside a walk that goes on
-  goes_on : (h : History A) (g : Grid) (w v : Walk A) (e : Event A) → closed_last (e ∷ h) ≡ closed_last h → since_closing (e ∷ h) ≡ e ∷ since_closing h
+  goes_on : (h : History A) (g : Grid) (w v : Walk A) (e : Event A) → list_any is_closing (e ∷ h) ≡ list_any is_closing h → closed_last (e ∷ h) ≡ closed_last h → since_closing (e ∷ h) ≡ e ∷ since_closing h
       → Searches h g w → Reached K g (cost g) (answered g) nothing_placed v → Steady K w v → v.opened ≡ opened_by e + w.opened → Agrees K (report_on K g v) e → Searches (e ∷ h) g v
-  goes_on h g w v e p q s r t o a = record {
+  goes_on h g w v e b p q s r t o a = record {
     closed = p ∙ s.closed;
+    behind = b ∙ s.behind;
     reached = r;
     opened = o ∙ (ap (λ n. opened_by e + n) s.opened ∙ sym (ap opened_in q));
     agrees = subst (All (Agrees K (report_on K g v))) (sym q)
@@ -90,7 +93,7 @@ module _ {A : Type 0} (K : Kind A) (laws : Lawful K) (priced : Link → Link →
   refused_matches : (h : History A) (f : ScriptFault) (s : Stage A) → Matches h s → Matches (refused f ∷ h) s
   refused_matches h f set m = tt {0}
   refused_matches h f (filling g) m = m
-  refused_matches h f (searching g w) m = goes_on h g w w (refused f) refl refl m m.reached (stays g w) (omega arith) (tt {0})
+  refused_matches h f (searching g w) m = goes_on h g w w (refused f) refl refl refl m m.reached (stays g w) (omega arith) (tt {0})
 
   refused_good : (h : History A) (f : ScriptFault) (s : Stage A) → Matches h s → Good h (refuse s f)
   refused_good h f s m = record { matches = refused_matches h f s m; keeps = tt {0} }
@@ -111,6 +114,7 @@ module _ {A : Type 0} (K : Kind A) (laws : Lawful K) (priced : Link → Link →
   close_good h g m = record {
     matches = record {
       closed = m;
+      behind = refl;
       reached = walk_starts (first_rows g) (nothing_partial g) (number_order_order g.lefts, number_order_order g.rights) (nothing_completed (first_rows g));
       opened = refl;
       agrees = All-nil (Agrees K (report_on K g (begun K priced answered g)));
@@ -123,26 +127,29 @@ module _ {A : Type 0} (K : Kind A) (laws : Lawful K) (priced : Link → Link →
       let v = ran K priced answered g nodes w in
       let e = run_exact K laws g (cost g) (answered g) nodes w in
       record {
-        matches = goes_on h g w v (searched nodes (v.opened - w.opened)) refl refl s
+        matches = goes_on h g w v (searched nodes (v.opened - w.opened)) refl refl refl s
             (run_reached K laws g (cost g) (answered g) (bounds g) nothing_placed nodes w s.reached)
             (run_steady K laws g (cost g) (answered g) (bounds g) nothing_placed nodes w s.reached)
             (omega (arith, e.none_lost))
             (λ l. e.fewer_done (omega (arith, l, e.none_lost)));
-        keeps = omega (arith, e.most);
+        keeps = (s.behind, omega (arith, e.most));
       }
   run_good h g w s p (Err f) = refused_good h _ (searching g w) s
 
   offer_opened : (g : Grid) (w : Walk A) (x : TwoRows) → (offer K (cost g) x w).opened ≡ w.opened
   offer_opened g w x = cond_both {A = Walk A} (K.at_most w.least (cost g x)) _ _ (λ v. v.opened ≡ w.opened) (λ _. refl) (λ _. refl)
 
+  offer_cheap : (g : Grid) (w : Walk A) (x : TwoRows) → AtMost K (offer K (cost g) x w).least (cost g x)
+  offer_cheap g w x = cond_both {A = Walk A} (K.at_most w.least (cost g x)) _ _ (λ v. AtMost K v.least (cost g x)) (λ e. e) (λ _. at_most_itself K laws _)
+
   offer_good : (h : History A) (g : Grid) (w : Walk A) → Searches h g w → (p : ℕ) (r : Result TwoRows RowFault) → Read g r → Good h (offer_by K priced g w p r)
   offer_good h g w s p (Ok x) d =
       let v = offer K (cost g) x w in
       let c = nothing_completed x in
       record {
-        matches = goes_on h g w v _ refl refl s (offers w x s.reached d c) (offer_steady K laws g (cost g) (answered g) (bounds g) nothing_placed w x s.reached d c)
-            (omega (arith, offer_opened g w x)) (tt {0});
-        keeps = tt {0};
+        matches = goes_on h g w v _ refl refl refl s (offers w x s.reached d c) (offer_steady K laws g (cost g) (answered g) (bounds g) nothing_placed w x s.reached d c)
+            (omega (arith, offer_opened g w x)) (offer_cheap g w x);
+        keeps = s.behind;
       }
   offer_good h g w s p (Err f) d = refused_good h _ (searching g w) s
 
@@ -153,6 +160,7 @@ module _ {A : Type 0} (K : Kind A) (laws : Lawful K) (priced : Link → Link →
         drawing = t.drawing;
         priced_so = t.priced;
         bounded = λ x d. t.bounded x d (nothing_completed x);
+        exactly = refl;
         least = λ e x d. t.least e x d (nothing_completed x);
         opened = s.opened;
         counted = omega (arith, t.counted, tree_counted g nothing_placed (nothing_partial g) refl refl);
@@ -160,8 +168,8 @@ module _ {A : Type 0} (K : Kind A) (laws : Lawful K) (priced : Link → Link →
         agrees = s.agrees;
       } in
       record {
-        matches = goes_on h g w w _ refl refl s s.reached (stays g w) (omega arith) (at_most_itself K laws _, at_most_itself K laws _);
-        keeps = subst (λ x. TrueOf K priced x (since_closing h) (report_on K g w)) (sym s.closed) here;
+        matches = goes_on h g w w _ refl refl refl s s.reached (stays g w) (omega arith) (at_most_itself K laws _, at_most_itself K laws _, λ l. l);
+        keeps = (s.behind, subst (λ x. TrueOf K priced x (since_closing h) (report_on K g w)) (sym s.closed) here);
       }
 
   carried_good : (h : History A) (s : Stage A) → Matches h s → (l p : ℕ) (ops : List ℕ) → Good h (carried K priced answered s l p ops)

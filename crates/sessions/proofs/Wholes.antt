@@ -53,10 +53,11 @@ tells_lawfully : {A : Type 0} (K : Kind A) → Lawful K → (priced : Link → L
     (answer : Answer) (line new_line : List ℕ) (new : Whole) (script : List ℕ) (p : ℕ) (c : Carried A)
     → c ≡ called K priced (answers K priced rule) s script p (length line)
     → answer.refused ≡ refusal_in c.event → Writes line new_line answer.wrote (if_room (length line) (event_line written c.event)) → new ≡ whole c.stage
-    → TellsLawfully K priced (answers K priced rule) written whole s answer line new_line new
+    → TellsLawfully K priced (answers K priced rule) written whole s script p answer line new_line new
 tells_lawfully K laws priced rule written whole s answer line new_line new script p c is e f g = record {
   event = c.event;
   stage = c.stage;
+  told = ap (λ r. r.event) is;
   refused = e;
   writes = f;
   session = g;
@@ -67,7 +68,7 @@ pub calls_lawfully : (w : Whole) (answer : Answer) (line new_line : List ℕ) (n
     → answer.refused ≡ (outcome w script p (length line)).refused
     → Writes line new_line answer.wrote (if_room (length line) (outcome w script p (length line)).bytes)
     → new ≡ (outcome w script p (length line)).session
-    → CallsLawfully w answer line new_line new
+    → CallsLawfully w script p answer line new_line new
 calls_lawfully fresh answer line new_line new script p e f g = subst Starts (sym g) (fresh_starts script (read_command script p (length line)))
 calls_lawfully (by_strands rule s) answer line new_line new script p e f g =
     tells_lawfully sums sums_lawful strand_price rule strand_written (by_strands rule) s answer line new_line new script p (called_by_strands rule s script p (length line)) refl e f g

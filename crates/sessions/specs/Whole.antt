@@ -8,6 +8,7 @@ use Rattle.measures.specs.Writings.{strand_written, trunk_written}
 use Rattle.measures.specs.declared.link.Link.{Link}
 use Rattle.designs.specs.Grids.{Grid}
 use Rattle.partials.specs.Partials.{Partial}
+use Rattle.sessions.specs.Calls.{called}
 use Rattle.sessions.specs.Events.{Event, refusal_in}
 use Rattle.sessions.specs.Runs.{LeadsTo, GoesOnLawfully}
 use Rattle.sessions.specs.Sessions.{Whole, answers}
@@ -16,12 +17,14 @@ use Rattle.sessions.specs.Stages.{Stage}
 use Rattle.sessions.specs.Texts.{event_line, if_room, Writes}
 use Rattle.sessions.specs.declared.session.Answer.{Answer}
 
--- A call tells an event: its answer has the event's refusal, if it is one, and its line is the event's; every history that
--- leads to the session before the call, with that event put before it, leads to the session after it, and keeps the law.
+-- A call tells the event that the command at its byte of the script calls for: its answer has the event's refusal, if it is
+-- one, and its line is the event's; every history that leads to the session before the call, with that event put before it,
+-- leads to the session after it, and keeps the law.
 pub record TellsLawfully {A : Type 0} (K : Kind A) (priced : Link → Link → A) (answered : Grid → Partial → A) (written : A → List ℕ) (whole : Stage A → Whole)
-    (s : Stage A) (answer : Answer) (line new_line : List ℕ) (new : Whole) : Type 0 where
+    (s : Stage A) (script : List ℕ) (place : ℕ) (answer : Answer) (line new_line : List ℕ) (new : Whole) : Type 0 where
   pub event : Event A
   pub stage : Stage A
+  pub told : event ≡ (called K priced answered s script place (length line)).event
   pub refused : answer.refused ≡ refusal_in event
   pub writes : Writes line new_line answer.wrote (if_room (length line) (event_line written event))
   pub session : new ≡ whole stage
@@ -34,9 +37,9 @@ Starts (by_strands rule s) = LeadsTo sums strand_price (answers sums strand_pric
 Starts (by_trunks rule s) = LeadsTo pairs trunk_price (answers pairs trunk_price rule) [] s
 
 -- a call on the whole session, from the session before it
-abbrev pub CallsLawfully : Whole → Answer → List ℕ → List ℕ → Whole → Type 0
-CallsLawfully fresh answer line new_line new = Starts new
-CallsLawfully (by_strands rule s) answer line new_line new =
-    TellsLawfully sums strand_price (answers sums strand_price rule) strand_written (by_strands rule) s answer line new_line new
-CallsLawfully (by_trunks rule s) answer line new_line new =
-    TellsLawfully pairs trunk_price (answers pairs trunk_price rule) trunk_written (by_trunks rule) s answer line new_line new
+abbrev pub CallsLawfully : Whole → List ℕ → ℕ → Answer → List ℕ → List ℕ → Whole → Type 0
+CallsLawfully fresh script place answer line new_line new = Starts new
+CallsLawfully (by_strands rule s) script place answer line new_line new =
+    TellsLawfully sums strand_price (answers sums strand_price rule) strand_written (by_strands rule) s script place answer line new_line new
+CallsLawfully (by_trunks rule s) script place answer line new_line new =
+    TellsLawfully pairs trunk_price (answers pairs trunk_price rule) trunk_written (by_trunks rule) s script place answer line new_line new

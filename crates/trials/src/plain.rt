@@ -107,7 +107,7 @@ impl PlainLink {
 
     // Puts the link into a design, which takes the class by its number.
     pub fn put_into(&self, design: &mut Design) -> Result<Class, DesignFault> {
-        design.link(self.left, self.right, self.strands, self.class as u8)
+        design.link(self.left, self.right, self.strands, self.class.number())
     }
 }
 

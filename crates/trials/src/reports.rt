@@ -133,7 +133,13 @@ fn setup<M: Keyed>(trial: &Trial, rule: u8) -> Result<Vec<u8>, AllocError> {
     let sizes = trial.sizes;
     let mut script = vec![in trial.heap; b'M', M::NUMBER, rule, b'D', sizes.left, sizes.right]?;
     for link in trial.links.iter() {
-        script.extend_from_slice(&[b'L', link.left, link.right, link.strands, link.class as u8])?;
+        script.extend_from_slice(&[
+            b'L',
+            link.left,
+            link.right,
+            link.strands,
+            link.class.number(),
+        ])?;
     }
     script.push(b'C')?;
     Ok(script)

@@ -64,7 +64,7 @@ impl Session {
         ensures writes { Writes line.old line.new result.wrote (if_room (length line.old) (outcome (whole_of self.old) script.now place (length line.old)).bytes) }
         ensures session { whole_of self.new ≡ (outcome (whole_of self.old) script.now place (length line.old)).session }
         ensures kept { OnSome result.refused (self.new ≡ self.old) }
-        ensures law { CallsLawfully (whole_of self.old) result line.old line.new (whole_of self.new) }
+        ensures law { CallsLawfully (whole_of self.old) script.now place result line.old line.new (whole_of self.new) }
         ensures forward { place < length script.now → 256 ≤ length line.old → place < result.next }
     {
         // A refusal is an answer with a line of its own, so no `?` hands it on.

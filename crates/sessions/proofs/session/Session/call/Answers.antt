@@ -8,3 +8,9 @@ returns-in-Err-clause-law c = calls_lawfully (whole_of c.args.self.now) _ c.args
 
 pub returns-in-Ok-set_up_at-clause-law : goal.returns-in-Ok-set_up_at-clause-law
 returns-in-Ok-set_up_at-clause-law c = calls_lawfully (whole_of c.args.self.now) _ c.args.line.now _ _ c.args.script.now c.args.place (search rules) (search rules) (search rules)
+
+pub returns-in-ByStrands-default-clause-law : goal.returns-in-ByStrands-default-clause-law
+returns-in-ByStrands-default-clause-law c = calls_lawfully (whole_of c.args.self.now) _ c.args.line.now _ _ c.args.script.now c.args.place (search rules) (search rules) (search rules)
+
+pub returns-in-ByTrunks-default-clause-law : goal.returns-in-ByTrunks-default-clause-law
+returns-in-ByTrunks-default-clause-law c = calls_lawfully (whole_of c.args.self.now) _ c.args.line.now _ _ c.args.script.now c.args.place (search rules) (search rules) (search rules)
