@@ -6,8 +6,9 @@ use Rattle.scripts.specs.declared.fault.ScriptFault.{ScriptFault}
 use Rattle.sessions.specs.declared.telling.Telling.{Telling}
 use Rattle.sessions.specs.declared.telling.Telling.TheVariants.{Sized, Linked, Closed, Searched, Offered, Reported}
 
--- what one call told: the two sizes of a new design; a link, by its two switches; that the design is closed; how many nodes
--- a search was asked for, and how many it opened; whether an offered drawing was taken, and its cost; a report; or a refusal
+-- what one call told: sized (D), with the left and the right size; linked (L), with the two switches and the link as it was
+-- given, not its cell; closed (C); searched (S), with the nodes asked for and those opened; offered (O), with whether the
+-- drawing was taken, and its cost; reported (P); or refused. M is no event: with it a history begins.
 pub data Event (A : Type 0) : Type 0 where
   sized : ℕ → ℕ → Event A
   linked : ℕ → ℕ → Link → Event A
@@ -17,6 +18,7 @@ pub data Event (A : Type 0) : Type 0 where
   reported : Values A → Event A
   refused : ScriptFault → Event A
 
+-- what the code answers, as an event
 abbrev pub telling_event : {M A : Type 0} → Telling M A → Event A
 telling_event (Sized n m) = sized n m
 telling_event (Linked a b l) = linked a b l

@@ -18,7 +18,7 @@ module _ {A : Type 0} where
   is_closing (reported v) = false
   is_closing (refused f) = false
 
-  -- what was told since the last closing, and what was told before it
+  -- what was told since the last closing, and what was told before it; the closing itself is in neither
   abbrev pub since_closing : History A → History A
   since_closing [] = []
   since_closing (e ∷ h) = if is_closing e then [] else e ∷ since_closing h
@@ -27,7 +27,7 @@ module _ {A : Type 0} where
   before_closing [] = []
   before_closing (e ∷ h) = if is_closing e then h else before_closing h
 
-  -- the design in hand: the last sizes told, and the links told since
+  -- the design in hand: the last sizes told, and the links told since; before any, a design of no switches
   abbrev pub drawn_up : Event A → Grid → Grid
   drawn_up (sized n m) g = no_links n m
   drawn_up (linked a b l) g = with_link g a b l.strands l.class
@@ -45,7 +45,7 @@ module _ {A : Type 0} where
   abbrev pub closed_last : History A → Grid
   closed_last h = in_hand (before_closing h)
 
-  -- how many nodes were opened
+  -- how many nodes an event told were opened, and all of a list together
   abbrev pub opened_by : Event A → ℕ
   opened_by (sized n m) = 0
   opened_by (linked a b l) = 0

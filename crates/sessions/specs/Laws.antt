@@ -1,4 +1,5 @@
--- What every history of a session keeps. Nothing here speaks of a state of the program.
+-- What every history of a session keeps. Nothing here speaks of a state of the program. K is a kind of amount (zero, join, and
+-- whether one is at most another), priced is the price of a crossing; Unit {0} asks nothing.
 use Rattle.std.specs.Prelude.{◌≡◌, ◌<◌, ◌≤◌, true, [], ◌∷◌, All}
 use Rattle.std.specs.List.{list_any}
 use Rattle.measures.specs.Amounts.{Kind, AtMost}
@@ -13,7 +14,7 @@ use Rattle.sessions.specs.Events.Event.{sized, linked, closed, searched, offered
 use Rattle.sessions.specs.Histories.{History, is_closing, since_closing, closed_last, opened_in}
 
 module _ {A : Type 0} (K : Kind A) where
-  -- A report beside what was told since the closing before it: it has no lower floor and no higher cost than an earlier
+  -- A report r beside an event that was told earlier, since the same closing: it has no lower floor and no higher cost than an earlier
   -- report, and says done if that did; it costs no more than a drawing that was offered; and if a search opened fewer nodes
   -- than it was asked for, the report says done.
   abbrev pub Agrees : Values A → Event A → Type 0
@@ -29,7 +30,7 @@ module _ {A : Type 0} (K : Kind A) where
     -- A report is true of the design g, beside the events told since g was closed: it shows a drawing of g and that
     -- drawing's cost; no drawing of g costs less than the floor; it says done exactly if the cost is at most the floor, and
     -- then no drawing costs less than the one shown; the opened count is what the searches since the closing opened, and at
-    -- most the number of nodes of g's tree, which is told unless it is above 1,000,000,000.
+    -- most the number of nodes of g's tree, which is the size told, unless it is above 1,000,000,000: then none is.
     pub record TrueOf (g : Grid) (since : History A) (r : Values A) : Type 0 where
       pub drawing : DrawingOf g r.drawing
       pub priced_so : r.cost ≡ cost_of K priced g r.drawing
@@ -41,8 +42,9 @@ module _ {A : Type 0} (K : Kind A) where
       pub size : r.size ≡ unless_above (tree_size g.lefts g.rights)
       pub agrees : All (Agrees r) since
 
-    -- what an event keeps beside the history before it: searches, offers and reports stand behind a closing, a search opens
-    -- no more than it was asked for, and a report is true of the design closed last
+    -- What an event keeps beside the history h before it (`list_any is_closing h`: a closing was told): searches, offers and
+    -- reports stand behind a closing, a search opens no more than it was asked for, and a report is true of the design closed
+    -- last.
     abbrev pub Keeps : History A → Event A → Type 0
     Keeps h (sized n m) = Unit {0}
     Keeps h (linked a b l) = Unit {0}

@@ -27,13 +27,15 @@ use Rattle.sessions.specs.Events.Event.{sized as told_sized, linked, closed, sea
 use Rattle.sessions.specs.declared.measured.Condition.{Condition}
 use Rattle.sessions.specs.declared.measured.Condition.TheVariants.{Set, Filling, Searching}
 
--- set: no design; filling: a design that links go into; searching: a closed design and the walk of its tree
+-- set: no design; filling: a design that links go into; searching: a closed design and the walk of its tree, which is the
+-- search of walks/specs/Walk.antt
 pub data Stage (A : Type 0) : Type 0 where
   set : Stage A
   filling : Grid → Stage A
   searching : Grid → Walk A → Stage A
 
 module _ {M A : Type 0} {gm : MeasureGhosts M A} {ga : AmountGhosts A} where
+  -- what the code holds, as a value
   abbrev pub stage_searching : Search M A gm ga → Stage A
   stage_searching s = searching (grid_in s) (walk_of s)
 
@@ -47,6 +49,7 @@ pub record Carried (A : Type 0) : Type 0 where
   pub event : Event A
   pub stage : Stage A
 
+-- a refusal leaves what was held
 abbrev pub refuse : {A : Type 0} → Stage A → ScriptFault → Carried A
 refuse s f = record { event = refused f; stage = s }
 
@@ -66,6 +69,7 @@ abbrev pub size_by : {A : Type 0} → Stage A → ℕ → ℕ → Result Grid Sc
 size_by s n m (Ok g) = record { event = told_sized n m; stage = filling g }
 size_by s n m (Err f) = refuse s f
 
+-- carried out if the check is Ok, else refused: p is the byte of the command, a and b are the switches, s the strands
 abbrev pub link_by : {A : Type 0} → Grid → ℕ → ℕ → ℕ → ℕ → Result Class LinkFault → Carried A
 link_by g p a b s (Ok k) = record { event = linked a b (record { strands = s; class = k }); stage = filling (after_link g a b s (Ok k)) }
 link_by g p a b s (Err f) = refuse (filling g) (InDesign (InLink f) p)
@@ -100,7 +104,7 @@ module _ {A : Type 0} (K : Kind A) (priced : Link → Link → A) (answered : Gr
   run_by g w p (Err f) = refuse (searching g w) (InSearch (InRun f) p)
 
   -- the command with this letter and these operands, at byte p: a session that is set takes D, one that is filling L and C,
-  -- one that is searching S, O, P and D
+  -- one that is searching S, O, P and D (68 is D, 76 L, 67 C, 83 S, 79 O and 80 P)
   abbrev pub carried : Stage A → ℕ → ℕ → List ℕ → Carried A
   carried set l p ops =
       cond (l == 68) (size_step set p ops) (refuse set (WrongCondition p))

@@ -19,7 +19,8 @@ use Rattle.sessions.specs.declared.session.Answer.{Answer}
 
 -- A call tells the event that the command at its byte of the script calls for: its answer has the event's refusal, if it is
 -- one, and its line is the event's; every history that leads to the session before the call, with that event put before it,
--- leads to the session after it, and keeps the law.
+-- leads to the session after it, and keeps the law. Written is how amounts are written, whole says which measure and rule the
+-- session has, and s is what it held before.
 pub record TellsLawfully {A : Type 0} (K : Kind A) (priced : Link → Link → A) (answered : Grid → Partial → A) (written : A → List ℕ) (whole : Stage A → Whole)
     (s : Stage A) (script : List ℕ) (place : ℕ) (answer : Answer) (line new_line : List ℕ) (new : Whole) : Type 0 where
   pub event : Event A
@@ -30,13 +31,13 @@ pub record TellsLawfully {A : Type 0} (K : Kind A) (priced : Link → Link → A
   pub session : new ≡ whole stage
   pub law : GoesOnLawfully K priced answered s event stage
 
--- a session that an M was accepted in starts with nothing told
+-- a session that an M was accepted in starts with nothing told; of a fresh one nothing is asked
 abbrev pub Starts : Whole → Type 0
 Starts fresh = Unit {0}
 Starts (by_strands rule s) = LeadsTo sums strand_price (answers sums strand_price rule) [] s
 Starts (by_trunks rule s) = LeadsTo pairs trunk_price (answers pairs trunk_price rule) [] s
 
--- a call on the whole session, from the session before it
+-- what is promised of a call: of a fresh session, that it starts a history if it took M; of any other, that it tells lawfully
 abbrev pub CallsLawfully : Whole → List ℕ → ℕ → Answer → List ℕ → List ℕ → Whole → Type 0
 CallsLawfully fresh script place answer line new_line new = Starts new
 CallsLawfully (by_strands rule s) script place answer line new_line new =

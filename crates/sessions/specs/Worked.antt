@@ -137,7 +137,8 @@ pub record Scripts : Type 0 where
       ≡ 1 ∷ (2 ∷ (3 ∷ (4 ∷ (5 ∷ (6 ∷ (7 ∷ (8 ∷ (9 ∷ (10 ∷ (11 ∷ (12 ∷ (13 ∷ (14 ∷ (15 ∷ (16 ∷ [])))))))))))))))
   pub place_of_long : place_of LongScript ≡ 0
 
--- a history: two switches a side, two links, closed, then another design that is not closed yet
+-- a history: two switches a side, two links, closed, then another design that is not closed yet; its oldest event, before any
+-- design, shows what is not counted
 abbrev told : History Sum
 told = told_sized 1 1 ∷ (searched 7 1 ∷ (refused (CutOff 9) ∷ (searched 4 4 ∷ (closed ∷ (linked 1 0 three ∷ (linked 0 1 two ∷ (told_sized 2 2 ∷ (searched 9 9 ∷ []))))))))
 

@@ -22,7 +22,7 @@ outcome K priced read rule g =
     let w : Walk _ = run K g (cost_of K priced g) (rule K priced g) 100 (start K g (cost_of K priced g) (rule K priced g) nothing_placed (first_rows g)) in
     (w.opened, read w.least, is_done K w)
 
--- a design of two and two switches, as links put into one without links
+-- a design without links
 abbrev pub blank : ℕ → ℕ → Grid
 blank n m = record { lefts = n; rights = m; cells = record { strands = replicate 576 0; classes = replicate 576 Ordinary } }
 
