@@ -3,6 +3,9 @@ pub mod Amounts
 pub mod Sums
 pub mod Pairs
 pub mod Prices
+pub mod Lines
+pub mod LinesLemmas
+pub mod Digits
 pub mod Unbroken
 pub mod Writings
 pub mod PairLaws

@@ -1,6 +1,7 @@
 #![tactic(auto)]
 
 pub mod amount;
+pub mod line;
 pub mod link;
 pub mod measure;
 pub mod pair;

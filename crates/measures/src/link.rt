@@ -39,14 +39,19 @@ impl Class {
     pub fn is_trunk(self) -> bool
         ensures { result ≡ is_trunk self }
     {
-        self == Class::Trunk
+        matches!(self, Class::Trunk)
     }
 
     // A trunk if one of the two is.
     pub fn either(self, other: Class) -> Class
         ensures { result ≡ either_class self other }
     {
-        if self.is_trunk() { self } else { other }
+        // Both are asked, with no branch between: each pair of links is priced by this.
+        if self.is_trunk() | other.is_trunk() {
+            Class::Trunk
+        } else {
+            Class::Ordinary
+        }
     }
 }
 

@@ -4,7 +4,7 @@ ghost use Rattle.measures.specs.declared.link.Link.{Link};
 
 use crate::amount::Amount;
 use crate::link::Link;
-use arrayvec::ArrayString;
+use arrayvec::ArrayVec;
 
 // The longest amount has this many bytes.
 pub const LONGEST_AMOUNT: usize = 41;
@@ -30,13 +30,13 @@ pub trait Measure {
     ghost exchanged: { (a b : Link) → priced a b ≡ priced b a };
 }
 
-// A measure that also writes its amounts: 1 to 41 bytes, none of them a space. It gives a text and does not print by
-// `write!`, of which nothing is known where it fails.
+// A measure that also writes its amounts: 1 to 41 bytes, none of them a space, and nothing else is asked of them. It gives
+// bytes, and no string, which would have to be UTF-8; nor does it print by `write!`, of which nothing is known where it fails.
 pub trait PrintingMeasure: Measure {
     ghost written: { Self.Amount → List ℕ };
 
-    fn write(amount: Self::Amount) -> ArrayString<LONGEST_AMOUNT>
-        ensures { result.bytes ≡ written amount };
+    fn write(amount: Self::Amount) -> ArrayVec<u8, LONGEST_AMOUNT>
+        ensures { result.items ≡ written amount };
 
     ghost short: { (x : Self.Amount) → (0 < length (written x)) × (length (written x) ≤ 41) };
 

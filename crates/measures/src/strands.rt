@@ -6,10 +6,11 @@ ghost use Rattle.measures.specs.SumLaws.{strands_exchanged};
 ghost use Rattle.measures.specs.WritingLaws.{strand_short, strand_unbroken};
 
 use crate::amount::Amount;
+use crate::line::push_bytes;
 use crate::link::Link;
 use crate::measure::{LONGEST_AMOUNT, Measure, PrintingMeasure};
 use crate::sum::Sum;
-use arrayvec::ArrayString;
+use arrayvec::ArrayVec;
 use itoa::Buffer;
 
 // Measure 1: the product of the strands, summed.
@@ -39,9 +40,9 @@ impl PrintingMeasure for ByStrands {
 
     ghost unbroken = { strand_unbroken };
 
-    fn write(amount: Sum) -> ArrayString<LONGEST_AMOUNT> {
-        let mut text = ArrayString::new();
-        text.push_str(Buffer::new().format(amount.value));
+    fn write(amount: Sum) -> ArrayVec<u8, LONGEST_AMOUNT> {
+        let mut text = ArrayVec::new();
+        push_bytes(&mut text, Buffer::new().format(amount.value).as_bytes());
         text
     }
 }

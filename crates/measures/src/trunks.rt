@@ -6,10 +6,11 @@ ghost use Rattle.measures.specs.PairLaws.{trunks_exchanged};
 ghost use Rattle.measures.specs.WritingLaws.{trunk_short, trunk_unbroken};
 
 use crate::amount::Amount;
+use crate::line::push_bytes;
 use crate::link::Link;
 use crate::measure::{LONGEST_AMOUNT, Measure, PrintingMeasure};
 use crate::pair::Pair;
-use arrayvec::ArrayString;
+use arrayvec::ArrayVec;
 use itoa::Buffer;
 
 // Measure 2: the product of the strands, trunk crossings before all others.
@@ -28,11 +29,12 @@ impl Measure for ByTrunks {
     ghost exchanged = { trunks_exchanged };
 
     fn price(a: Link, b: Link) -> Pair {
-        if a.class.either(b.class).is_trunk() {
-            Pair::of(a.product(b), 0)
-        } else {
-            Pair::of(0, a.product(b))
-        }
+        // The rest is what is left of the product, so that one number is chosen and not two: a branch here costs more than all
+        // else, as classes come in no order.
+        let product = a.product(b);
+        let either = a.class.either(b.class);
+        let trunk = if either.is_trunk() { product } else { 0 };
+        Pair::of(trunk, product - trunk)
     }
 }
 
@@ -43,11 +45,11 @@ impl PrintingMeasure for ByTrunks {
 
     ghost unbroken = { trunk_unbroken };
 
-    fn write(amount: Pair) -> ArrayString<LONGEST_AMOUNT> {
-        let mut text = ArrayString::new();
-        text.push_str(Buffer::new().format(amount.trunk));
-        text.push('/');
-        text.push_str(Buffer::new().format(amount.rest));
+    fn write(amount: Pair) -> ArrayVec<u8, LONGEST_AMOUNT> {
+        let mut text = ArrayVec::new();
+        push_bytes(&mut text, Buffer::new().format(amount.trunk).as_bytes());
+        push_bytes(&mut text, b"/");
+        push_bytes(&mut text, Buffer::new().format(amount.rest).as_bytes());
         text
     }
 }

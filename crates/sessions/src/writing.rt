@@ -5,10 +5,11 @@ ghost use Rattle.sessions.specs.Texts.{field, layer_name, offer_word, done_word,
 ghost use Rattle.walks.specs.Reports.{values_of};
 
 use crate::telling::Telling;
-use arrayvec::ArrayString;
+use arrayvec::{ArrayString, ArrayVec};
 use designs::fault::Layer;
 use designs::row::Row;
 use itoa::Buffer;
+use measures::line::push_bytes;
 use measures::measure::PrintingMeasure;
 use scripts::command::LINE;
 use scripts::fault::ScriptFault;
@@ -16,6 +17,14 @@ use walks::report::Report;
 
 // The longest row that is written: 24 switches of two figures, parted by commas.
 const LONGEST_ROW: usize = 71;
+
+// The longest lines but a report's, so that a line costs no more than it is long: "refused" with a number of 3 figures, a
+// layer of 6 letters and a place of 20 figures, "opened" with 10 figures, and "taken" with an amount.
+const LONGEST_REFUSAL: usize = 40;
+
+const LONGEST_OPENED: usize = 18;
+
+const LONGEST_OFFER: usize = 48;
 
 // The words of a line are pushed, and not printed by `write!` or a Display: nothing is known of what a failed one wrote, and
 // a line's bytes are promised for every call.
@@ -39,24 +48,32 @@ fn offer_word(taken: bool) -> &'static str
     if taken { "taken" } else { "kept" }
 }
 
-// Adds a field to a line, and what ends it: a space, or byte 10 behind the last one.
-fn push_field(text: &mut ArrayString<LINE>, content: &str, end: &str)
-    requires room { length text.old.bytes + length content.now + length end.now ≤ 256 }
-    ensures { text.new.bytes ≡ text.old.bytes ++ (content.now ++ end.now) }
+// Adds a field to a line, and what ends it: a space, or byte 10 behind the last one. A line is bytes, as its amounts are.
+fn push_field<const N: usize>(text: &mut ArrayVec<u8, N>, content: &[u8], end: &[u8])
+    requires room { length text.old.items + length content.now + length end.now ≤ N }
+    ensures { text.new.items ≡ text.old.items ++ (content.now ++ end.now) }
 {
-    text.push_str(content);
-    text.push_str(end);
+    push_bytes(text, content);
+    push_bytes(text, end);
 }
 
 // The line of a refusal: its number, its layer and its place. A line's text fits the shortest line that a call takes.
-fn refusal_text(fault: ScriptFault) -> ArrayString<LINE>
-    ensures { result.bytes ≡ refusal_line fault }
+fn refusal_text(fault: ScriptFault) -> ArrayVec<u8, LONGEST_REFUSAL>
+    ensures { result.items ≡ refusal_line fault }
 {
-    let mut text = ArrayString::new();
-    push_field(&mut text, "refused", " ");
-    push_field(&mut text, Buffer::new().format(fault.number()), " ");
-    push_field(&mut text, layer_name(fault.layer()), " ");
-    push_field(&mut text, Buffer::new().format(fault.place()), "\n");
+    let mut text = ArrayVec::new();
+    push_field(&mut text, b"refused", b" ");
+    push_field(
+        &mut text,
+        Buffer::new().format(fault.number()).as_bytes(),
+        b" ",
+    );
+    push_field(&mut text, layer_name(fault.layer()).as_bytes(), b" ");
+    push_field(
+        &mut text,
+        Buffer::new().format(fault.place()).as_bytes(),
+        b"\n",
+    );
     text
 }
 
@@ -95,70 +112,113 @@ fn size_text(size: Option<u32>) -> ArrayString<10>
 }
 
 // The line of a report.
-fn report_text<P: PrintingMeasure>(report: &Report<P::Amount>) -> ArrayString<LINE>
-    ensures { result.bytes ≡ report_line P.PrintingMeasure.written (values_of report.now) }
+fn report_text<P: PrintingMeasure>(report: &Report<P::Amount>) -> ArrayVec<u8, LINE>
+    ensures { result.items ≡ report_line P.PrintingMeasure.written (values_of report.now) }
 {
-    let mut text = ArrayString::new();
-    push_field(&mut text, done_word(report.done), " ");
-    push_field(&mut text, Buffer::new().format(report.opened), " ");
-    push_field(&mut text, P::write(report.cost).as_str(), " ");
-    push_field(&mut text, P::write(report.floor).as_str(), " ");
-    push_field(&mut text, size_text(report.size).as_str(), " ");
-    push_field(&mut text, row_text(&report.drawing.left).as_str(), " ");
-    push_field(&mut text, row_text(&report.drawing.right).as_str(), "\n");
+    let mut text = ArrayVec::new();
+    push_field(&mut text, done_word(report.done).as_bytes(), b" ");
+    push_field(
+        &mut text,
+        Buffer::new().format(report.opened).as_bytes(),
+        b" ",
+    );
+    push_field(&mut text, P::write(report.cost).as_slice(), b" ");
+    push_field(&mut text, P::write(report.floor).as_slice(), b" ");
+    push_field(&mut text, size_text(report.size).as_str().as_bytes(), b" ");
+    push_field(
+        &mut text,
+        row_text(&report.drawing.left).as_str().as_bytes(),
+        b" ",
+    );
+    push_field(
+        &mut text,
+        row_text(&report.drawing.right).as_str().as_bytes(),
+        b"\n",
+    );
     text
 }
 
 // The line of how many nodes a search opened.
-fn opened_text(opened: u32) -> ArrayString<LINE>
-    ensures { result.bytes ≡ field (codes "opened") 32 ++ field (decimal opened) 10 }
+fn opened_text(opened: u32) -> ArrayVec<u8, LONGEST_OPENED>
+    ensures { result.items ≡ field (codes "opened") 32 ++ field (decimal opened) 10 }
 {
-    let mut text = ArrayString::new();
-    push_field(&mut text, "opened", " ");
-    push_field(&mut text, Buffer::new().format(opened), "\n");
+    let mut text = ArrayVec::new();
+    push_field(&mut text, b"opened", b" ");
+    push_field(&mut text, Buffer::new().format(opened).as_bytes(), b"\n");
     text
 }
 
 // The line of an offer: whether the drawing was taken, and its cost.
-fn offer_text<P: PrintingMeasure>(taken: bool, cost: P::Amount) -> ArrayString<LINE>
-    ensures { result.bytes ≡ field (offer_word taken) 32 ++ field (P.PrintingMeasure.written cost) 10 }
+fn offer_text<P: PrintingMeasure>(taken: bool, cost: P::Amount) -> ArrayVec<u8, LONGEST_OFFER>
+    ensures { result.items ≡ field (offer_word taken) 32 ++ field (P.PrintingMeasure.written cost) 10 }
 {
-    let mut text = ArrayString::new();
-    push_field(&mut text, offer_word(taken), " ");
-    push_field(&mut text, P::write(cost).as_str(), "\n");
+    let mut text = ArrayVec::new();
+    push_field(&mut text, offer_word(taken).as_bytes(), b" ");
+    push_field(&mut text, P::write(cost).as_slice(), b"\n");
     text
 }
 
-// The line of what a command told; M, D, L and C write nothing.
-fn telling_text<P: PrintingMeasure>(telling: &Telling<P>) -> ArrayString<LINE>
-    ensures { result.bytes ≡ event_line P.PrintingMeasure.written (telling_event telling.now) }
+// Copies a line's text to the start of a lent line that has room for it, and answers how many bytes it wrote. `Writes` speaks
+// of the line before and after, which no type can say.
+fn write_text(line: &mut [u8], bytes: &[u8]) -> usize
+    requires { length bytes.now ≤ length line.old }
+    ensures { Writes line.old line.new result bytes.now }
 {
-    match telling {
-        Telling::Sized { .. } | Telling::Linked { .. } | Telling::Closed => ArrayString::new(),
-        Telling::Searched { opened, .. } => opened_text(*opened),
-        Telling::Offered { taken, cost } => offer_text::<P>(*taken, *cost),
-        Telling::Reported(report) => report_text::<P>(report),
-    }
-}
-
-// Copies a text to the line's start, unless the line is too short, and answers how many bytes it wrote. `Writes` speaks of
-// the line before and after, which no type can say.
-fn write_text(line: &mut [u8], text: &ArrayString<LINE>) -> usize
-    ensures writes { Writes line.old line.new result (if_room (length line.old) text.now.bytes) }
-{
-    if line.len() < LINE {
-        return 0;
-    }
-    let bytes = text.as_str().as_bytes();
     line[..bytes.len()].copy_from_slice(bytes);
     bytes.len()
+}
+
+// Each line is written by a function of its own: a call pays at its entry for the room of the texts that it holds, and most
+// commands write nothing.
+fn write_opened(line: &mut [u8], opened: u32) -> usize
+    requires { 256 ≤ length line.old }
+    ensures { Writes line.old line.new result (field (codes "opened") 32 ++ field (decimal opened) 10) }
+{
+    write_text(line, opened_text(opened).as_slice())
+}
+
+fn write_offer<P: PrintingMeasure>(line: &mut [u8], taken: bool, cost: P::Amount) -> usize
+    requires { 256 ≤ length line.old }
+    ensures { Writes line.old line.new result (field (offer_word taken) 32 ++ field (P.PrintingMeasure.written cost) 10) }
+{
+    write_text(line, offer_text::<P>(taken, cost).as_slice())
+}
+
+fn write_report<P: PrintingMeasure>(line: &mut [u8], report: &Report<P::Amount>) -> usize
+    requires { 256 ≤ length line.old }
+    ensures { Writes line.old line.new result (report_line P.PrintingMeasure.written (values_of report.now)) }
+{
+    write_text(line, report_text::<P>(report).as_slice())
+}
+
+fn write_fault(line: &mut [u8], fault: ScriptFault) -> usize
+    requires { 256 ≤ length line.old }
+    ensures { Writes line.old line.new result (refusal_line fault) }
+{
+    write_text(line, refusal_text(fault).as_slice())
+}
+
+// Writes the line of what a command told; M, D, L and C write nothing.
+fn write_telling<P: PrintingMeasure>(line: &mut [u8], telling: &Telling<P>) -> usize
+    requires { 256 ≤ length line.old }
+    ensures { Writes line.old line.new result (event_line P.PrintingMeasure.written (telling_event telling.now)) }
+{
+    match telling {
+        Telling::Sized { .. } | Telling::Linked { .. } | Telling::Closed => 0,
+        Telling::Searched { opened, .. } => write_opened(line, *opened),
+        Telling::Offered { taken, cost } => write_offer::<P>(line, *taken, *cost),
+        Telling::Reported(report) => write_report::<P>(line, report),
+    }
 }
 
 // Writes a refusal, unless the line is too short.
 pub fn write_refusal(line: &mut [u8], fault: ScriptFault) -> usize
     ensures writes { Writes line.old line.new result (if_room (length line.old) (refusal_line fault)) }
 {
-    write_text(line, &refusal_text(fault))
+    if line.len() < LINE {
+        return 0;
+    }
+    write_fault(line, fault)
 }
 
 // Writes what a call answers, unless the line is too short.
@@ -168,9 +228,11 @@ pub fn write_answer<P: PrintingMeasure>(
 ) -> usize
     ensures writes { Writes line.old line.new result (if_room (length line.old) (event_line P.PrintingMeasure.written (event_of told.now))) }
 {
-    let text = match told {
-        Ok(telling) => telling_text::<P>(telling),
-        Err(fault) => refusal_text(*fault),
-    };
-    write_text(line, &text)
+    if line.len() < LINE {
+        return 0;
+    }
+    match told {
+        Ok(telling) => write_telling::<P>(line, telling),
+        Err(fault) => write_fault(line, *fault),
+    }
 }

@@ -2,6 +2,7 @@ use crate::plain::{PlainLink, Price, Rows, Seed, Sheet, Sizes, count};
 use designs::choosing::read_part;
 use designs::design::Design;
 use designs::fault::{DesignFault, LinkFault};
+use measures::link::Class;
 use measures::strands::ByStrands;
 use measures::trunks::ByTrunks;
 use std::process::Abort;
@@ -68,6 +69,7 @@ impl<'a> Trial<'a> {
         // A `Cell` made to compare with would name the same two fields.
         assert_eq!(rt; cell.strands, held.strands);
         assert_eq!(rt; cell.class, held.class);
+        assert_eq!(rt; cell.class.is_trunk(), matches!(held.class, Class::Trunk));
         Ok(())
     }
 

@@ -9,6 +9,8 @@ mod costs;
 #[cfg(test)]
 mod limits;
 #[cfg(test)]
+mod marks;
+#[cfg(test)]
 mod plain;
 #[cfg(test)]
 mod playing;

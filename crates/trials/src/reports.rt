@@ -1,5 +1,5 @@
 use crate::against_all::Trial;
-use crate::plain::{Rows, Seed, count, order};
+use crate::plain::{Rows, Seed, class_number, count, order};
 use crate::playing::Player;
 use crate::seen::{Key, Keyed, Seen};
 use measures::strands::ByStrands;
@@ -138,7 +138,7 @@ fn setup<M: Keyed>(trial: &Trial, rule: u8) -> Result<Vec<u8>, AllocError> {
             link.left,
             link.right,
             link.strands,
-            link.class.number(),
+            class_number(link.class),
         ])?;
     }
     script.push(b'C')?;

@@ -4,12 +4,19 @@ ghost use Rattle.designs.specs.Grids.{grid_of};
 ghost use Rattle.designs.specs.Readings.{rows_of, rows_named};
 ghost use Rattle.partials.specs.Nodes.{partial_of};
 ghost use Rattle.partials.specs.Names.{names_of};
-ghost use Rattle.partials.specs.Partials.{nothing_placed, unplaced};
+ghost use Rattle.partials.specs.Partials.{has, nothing_placed, unplaced};
 
 use super::Node;
 use crate::names::Names;
 use designs::design::Design;
 use designs::drawing::Drawing;
+
+// Whether a row names a switch. By `any`, so that only the reading of rows calls `contains`, and has it in place.
+fn names(row: &[u8], switch: u8) -> bool
+    ensures { result ≡ has row.now switch }
+{
+    row.iter().any(|name| *name == switch)
+}
 
 impl Node {
     // Nothing placed.
@@ -47,7 +54,7 @@ impl Node {
     {
         let mut free = Names::new();
         for v in 0..design.right_size() {
-            if !self.prefix().contains(&v) {
+            if !names(self.prefix(), v) {
                 free.push(v);
             }
         }

@@ -1,4 +1,4 @@
-ghost use Rattle.std.specs.Prelude.{◌≡◌, length, Some, OnErr};
+ghost use Rattle.std.specs.Prelude.{◌≡◌, [], length, Some, OnErr};
 ghost use Rattle.scripts.specs.Scripts.{width_of};
 ghost use Rattle.sessions.specs.Events.{event_of};
 ghost use Rattle.sessions.specs.Stages.{stage_of, size_step, carried};
@@ -26,6 +26,24 @@ impl<M: Measure, R: BoundingRule<M> + Drop> MeasuredSession<M, R> {
         Ok(Telling::Sized { left, right })
     }
 
+    // C: closes the design that is filled, and starts a search of it. Apart from the other commands, each of which would pay at
+    // its entry for the room of a search.
+    fn close_design(&mut self, place: usize) -> Result<Telling<M>, ScriptFault>
+        ensures told { event_of result ≡ (carried M.Amount.Amount.kind M.Measure.priced (R.BoundingRule.answered self.old.rule) (stage_of self.old.condition) 67 place []).event }
+        ensures stage { stage_of self.new.condition ≡ (carried M.Amount.Amount.kind M.Measure.priced (R.BoundingRule.answered self.old.rule) (stage_of self.old.condition) 67 place []).stage }
+        ensures refused { OnErr result (self.new ≡ self.old) }
+        ensures rule { self.new.rule ≡ self.old.rule }
+    {
+        match &self.condition {
+            Condition::Set => Err(ScriptFault::WrongCondition { place }),
+            Condition::Searching(_) => Err(ScriptFault::WrongCondition { place }),
+            Condition::Filling(design) => {
+                self.condition = Condition::Searching(Search::start(*design, &self.rule));
+                Ok(Telling::Closed)
+            }
+        }
+    }
+
     // Carries out a command that has all its operands. That a refusal changes nothing, and no call the rule, is promised by
     // each call for itself: it compares before with after, which no field can say.
     pub(super) fn carry_out(
@@ -46,10 +64,7 @@ impl<M: Measure, R: BoundingRule<M> + Drop> MeasuredSession<M, R> {
             (Condition::Set, 'D') => self.begin_design(place, operands),
             (Condition::Searching(_), 'D') => self.begin_design(place, operands),
             (Condition::Filling(design), 'L') => put_link(design, place, operands),
-            (Condition::Filling(design), 'C') => {
-                self.condition = Condition::Searching(Search::start(*design, &self.rule));
-                Ok(Telling::Closed)
-            }
+            (Condition::Filling(_), 'C') => self.close_design(place),
             (Condition::Searching(search), 'S') => run_search(search, &self.rule, place, operands),
             (Condition::Searching(search), 'O') => offer_drawing(search, place, operands),
             (Condition::Searching(search), 'P') => Ok(Telling::Reported(search.report())),

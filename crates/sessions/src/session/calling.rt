@@ -1,4 +1,4 @@
-ghost use Rattle.std.specs.Prelude.{◌≡◌, ◌<◌, ◌≤◌, length, Some, OnSome};
+ghost use Rattle.std.specs.Prelude.{◌≡◌, ◌<◌, ◌≤◌, length, Some, OnSome, OnErr};
 ghost use Rattle.designs.specs.Results.{on_ok};
 ghost use Rattle.scripts.specs.Scripts.{read_command, next_byte};
 ghost use Rattle.sessions.specs.Sessions.{whole_of, set_up, placed_set_up, outcome};
@@ -55,6 +55,15 @@ impl Session {
         Session::Fresh
     }
 
+    // M: gives the session a measure and a rule. Apart from `call`, which would pay at each entry for the room of a session.
+    fn take_measure(&mut self, measure: u8, rule: u8, place: usize) -> Result<(), ScriptFault>
+        ensures session { on_ok (λ _. whole_of self.new) result ≡ placed_set_up place (set_up measure rule) }
+        ensures kept { OnErr result (self.new ≡ self.old) }
+    {
+        *self = set_up_at(measure, rule, place)?;
+        Ok(())
+    }
+
     // Carries out the command at a byte of the script, and writes to the lent line. Script, place and line stay three
     // parameters: each call brings another place, and a struct of the three would be taken apart at once. That the line has
     // room is the premise of moving on, and no type's; that a refusal changes nothing compares before with after.
@@ -74,17 +83,16 @@ impl Session {
         };
         // Matched together, as a project rule asks.
         match (&mut *self, letter) {
-            (Session::Fresh, 'M') => match set_up_at(script[place + 1], script[place + 2], place) {
-                Ok(session) => {
-                    *self = session;
-                    Answer {
+            (Session::Fresh, 'M') => {
+                match self.take_measure(script[place + 1], script[place + 2], place) {
+                    Ok(()) => Answer {
                         refused: None,
                         next,
                         wrote: 0,
-                    }
+                    },
+                    Err(fault) => refuse(line, fault, next),
                 }
-                Err(fault) => refuse(line, fault, next),
-            },
+            }
             (Session::Fresh, _) => refuse(line, ScriptFault::WrongCondition { place }, next),
             // An arm for each measure, as the variants are two types.
             (Session::ByStrands(session), _) => session.call_on_line(script, place, line).into(),

@@ -6,6 +6,6 @@ use Rattle.partials.proofs.node.Node.unplaced.Goals as goal
 
 pub push-requires : goal.push-requires
 push-requires c =
-    let few = few_named (λ u. not (has (partial_of c.args.self.now).prefix u)) c.loop-v.v-counter in
+    let few = few_named (λ u. not (has (partial_of c.args.self.now).prefix u)) c.loop-v.v in
     let same = ap length c.loop-v.invariant in
     (search rules, (omega (arith, c.loop-v-test.true, c.right_size-v-end.ensures.bound), omega (arith, c.loop-v-test.true, c.right_size-v-end.ensures.bound)))

@@ -6,4 +6,4 @@ use Rattle.partials.specs.Nodes.{partial_of}
 use Rattle.partials.proofs.node.Node.unplaced.Given as goal
 
 abbrev pub invariant-loop-v : goal.invariant-loop-v
-invariant-loop-v l = names_of l.free ≡ filter (λ u. not (has (partial_of l.self).prefix u)) (number_order l.v-counter)
+invariant-loop-v l = names_of l.free ≡ filter (λ u. not (has (partial_of l.self).prefix u)) (number_order l.v)

@@ -6,8 +6,8 @@ use Rattle.sessions.proofs.session.Session.call.Goals as goal
 pub returns-in-Err-clause-law : goal.returns-in-Err-clause-law
 returns-in-Err-clause-law c = calls_lawfully (whole_of c.args.self.now) _ c.args.line.now _ _ c.args.script.now c.args.place (search rules) (search rules) (search rules)
 
-pub returns-in-Ok-set_up_at-clause-law : goal.returns-in-Ok-set_up_at-clause-law
-returns-in-Ok-set_up_at-clause-law c = calls_lawfully (whole_of c.args.self.now) _ c.args.line.now _ _ c.args.script.now c.args.place (search rules) (search rules) (search rules)
+pub returns-in-Ok-take_measure-clause-law : goal.returns-in-Ok-take_measure-clause-law
+returns-in-Ok-take_measure-clause-law c = calls_lawfully (whole_of c.args.self.now) _ c.args.line.now _ _ c.args.script.now c.args.place (search rules) (search rules) (search rules)
 
 pub returns-in-ByStrands-default-clause-law : goal.returns-in-ByStrands-default-clause-law
 returns-in-ByStrands-default-clause-law c = calls_lawfully (whole_of c.args.self.now) _ c.args.line.now _ _ c.args.script.now c.args.place (search rules) (search rules) (search rules)
