@@ -1,5 +1,6 @@
-ghost use Rattle.std.specs.Prelude.{◌≡◌};
+ghost use Rattle.std.specs.Prelude.{◌≡◌, cond};
 ghost use Rattle.measures.specs.Writings.{trunk_written};
+ghost use Rattle.measures.specs.Pairs.{pair_held};
 ghost use Rattle.measures.specs.Prices.{trunk_price};
 ghost use Rattle.measures.specs.declared.pair.Pair.{Pair};
 ghost use Rattle.measures.specs.PairLaws.{trunks_exchanged};
@@ -17,6 +18,16 @@ use itoa::Buffer;
 #[derive(Clone, Copy)]
 pub struct ByTrunks;
 
+// A product as the price of a trunk crossing, or of another. The rest is what is left of the product, so that one number is chosen
+// and not two: classes come in no order, and where the compiler makes a branch of two, a search of many trunks takes half as
+// long again.
+fn booked(product: u64, as_trunk: bool) -> Pair
+    ensures { result ≡ cond as_trunk (pair_held product 0) (pair_held 0 product) }
+{
+    let trunk = if as_trunk { product } else { 0 };
+    Pair::of(trunk, product - trunk)
+}
+
 impl Measure for ByTrunks {
     type Amount = Pair;
 
@@ -29,12 +40,7 @@ impl Measure for ByTrunks {
     ghost exchanged = { trunks_exchanged };
 
     fn price(a: Link, b: Link) -> Pair {
-        // The rest is what is left of the product, so that one number is chosen and not two: a branch here costs more than all
-        // else, as classes come in no order.
-        let product = a.product(b);
-        let either = a.class.either(b.class);
-        let trunk = if either.is_trunk() { product } else { 0 };
-        Pair::of(trunk, product - trunk)
+        booked(a.product(b), a.class.either(b.class).is_trunk())
     }
 }
 
