@@ -10,9 +10,8 @@ use designs::drawing::Drawing;
 use measures::measure::Measure;
 
 impl<M: Measure> Search<M> {
-    // Takes a drawing if it costs less than the best. Tried as one body with `offer`: what that promises beyond this is
-    // proved by hand, and then not found. `GoesTo` compares the walk before and after, here and in each step of a run, which
-    // no field can say.
+    // Takes a drawing if it costs less than the best. `GoesTo` compares the walk before and after, here and in each step of a
+    // run, which no field can say.
     pub(super) fn take_better(&mut self, drawing: Drawing) -> Offered<M::Amount>
         ensures goes { GoesTo self.old self.new (offer M.Amount.Amount.kind (cost_in self.old) (rows_of drawing) (walk_of self.old)) }
         ensures cost { result.cost ≡ cost_in self.old (rows_of drawing) }
@@ -23,10 +22,18 @@ impl<M: Measure> Search<M> {
         Offered { taken, cost }
     }
 
+    // The same, and what is true of the search then. What is proved of it by hand stands here, and not in the public function;
+    // tried as one body with `take_better`: its steps are then not found.
+    fn weigh(&mut self, drawing: Drawing) -> Offered<M::Amount>
+        ensures weighed { Weighed (rows_of drawing) self.old self.new result }
+    {
+        self.take_better(drawing)
+    }
+
     // An offered drawing becomes the best if it costs less.
     pub fn offer(&mut self, drawing: Drawing) -> Offered<M::Amount>
         ensures weighed { Weighed (rows_of drawing) self.old self.new result }
     {
-        self.take_better(drawing)
+        self.weigh(drawing)
     }
 }

@@ -32,12 +32,13 @@ impl<M: Measure> Search<M> {
         self.best.cost.is_at_most(self.floor())
     }
 
-    // What is known so far.
-    pub fn report(&self) -> Report<M::Amount>
+    // What is known so far, with a floor that was worked out. What is proved of it by hand stands here, and not in the public
+    // function.
+    fn report_with(&self, floor: M::Amount) -> Report<M::Amount>
+        requires { floor ≡ lower_bound M.Amount.Amount.kind (walk_of self.now) }
         ensures values { values_of result ≡ reported M.Amount.Amount.kind (grid_in self.now) (walk_of self.now) }
         ensures truth { AlwaysTrue self.now (values_of result) }
     {
-        let floor = self.floor();
         Report {
             done: self.best.cost.is_at_most(floor),
             opened: self.opened,
@@ -46,5 +47,14 @@ impl<M: Measure> Search<M> {
             size: tree_size(&self.path.design),
             drawing: self.best.drawing,
         }
+    }
+
+    // What is known so far.
+    pub fn report(&self) -> Report<M::Amount>
+        ensures values { values_of result ≡ reported M.Amount.Amount.kind (grid_in self.now) (walk_of self.now) }
+        ensures truth { AlwaysTrue self.now (values_of result) }
+    {
+        let floor = self.floor();
+        self.report_with(floor)
     }
 }

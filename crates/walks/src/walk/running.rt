@@ -18,7 +18,6 @@ const MOST_OPENED: u32 = 1_000_000_000;
 
 impl<M: Measure> Search<M> {
     // The opening of a run, once its limits are kept: a loop left by its label with the nodes opened, as a project rule asks.
-    // Tried as one body with `run`: what that promises beyond these steps is proved by hand, and then not found.
     fn run_for<R: BoundingRule<M>>(&mut self, rule: &R, nodes: u32) -> u32
         requires { self.old.opened + nodes ≤ 1000000000 }
         ensures goes { GoesTo self.old self.new (run M.Amount.Amount.kind (grid_in self.old) (cost_in self.old) (R.BoundingRule.answered rule.now (grid_in self.old)) nodes (walk_of self.old)) }
@@ -38,6 +37,15 @@ impl<M: Measure> Search<M> {
         opened
     }
 
+    // The same, and what is true of the search then. What is proved of it by hand stands here, and not in the public function;
+    // tried as one body with `run_for`: its steps are then not found.
+    fn run_on<R: BoundingRule<M>>(&mut self, rule: &R, nodes: u32) -> u32
+        requires { self.old.opened + nodes ≤ 1000000000 }
+        ensures ran { Ran (R.BoundingRule.answered rule.now) nodes self.old self.new result }
+    {
+        self.run_for(rule, nodes)
+    }
+
     // Opens up to so many nodes, until the walk is done; answers how many. Refused for 0 or more than 1,000,000 nodes,
     // or if they would make more than 1,000,000,000 with those opened before. That a refusal changes nothing compares before
     // with after, which no field can say.
@@ -52,6 +60,6 @@ impl<M: Measure> Search<M> {
         if nodes > MOST_OPENED - self.opened {
             return Err(RunFault::Total);
         }
-        Ok(self.run_for(rule, nodes))
+        Ok(self.run_on(rule, nodes))
     }
 }
