@@ -1,3 +1,4 @@
+pub mod Fields
 pub mod Kept
 pub mod Lawful
 pub mod Reading

@@ -9,7 +9,7 @@ use arrayvec::{ArrayString, ArrayVec};
 use designs::fault::Layer;
 use designs::row::Row;
 use itoa::Buffer;
-use measures::line::push_bytes;
+use measures::line::{push_bytes, put_field};
 use measures::measure::PrintingMeasure;
 use scripts::command::LINE;
 use scripts::fault::ScriptFault;
@@ -19,12 +19,10 @@ use walks::report::Report;
 const LONGEST_ROW: usize = 71;
 
 // The longest lines but a report's, so that a line costs no more than it is long: "refused" with a number of 3 figures, a
-// layer of 6 letters and a place of 20 figures, "opened" with 10 figures, and "taken" with an amount.
+// layer of 6 letters and a place of 20 figures, and "opened" with 10 figures. An offer has no text: it is put into the line.
 const LONGEST_REFUSAL: usize = 40;
 
 const LONGEST_OPENED: usize = 18;
-
-const LONGEST_OFFER: usize = 48;
 
 // The words of a line are pushed, and not printed by `write!` or a Display: nothing is known of what a failed one wrote, and
 // a line's bytes are promised for every call.
@@ -148,16 +146,6 @@ fn opened_text(opened: u32) -> ArrayVec<u8, LONGEST_OPENED>
     text
 }
 
-// The line of an offer: whether the drawing was taken, and its cost.
-fn offer_text<P: PrintingMeasure>(taken: bool, cost: P::Amount) -> ArrayVec<u8, LONGEST_OFFER>
-    ensures { result.items ≡ field (offer_word taken) 32 ++ field (P.PrintingMeasure.written cost) 10 }
-{
-    let mut text = ArrayVec::new();
-    push_field(&mut text, offer_word(taken).as_bytes(), b" ");
-    push_field(&mut text, P::write(cost).as_slice(), b"\n");
-    text
-}
-
 // Copies a line's text to the start of a lent line that has room for it, and answers how many bytes it wrote. `Writes` speaks
 // of the line before and after, which no type can say.
 fn write_text(line: &mut [u8], bytes: &[u8]) -> usize
@@ -177,11 +165,14 @@ fn write_opened(line: &mut [u8], opened: u32) -> usize
     write_text(line, opened_text(opened).as_slice())
 }
 
+// The line of an offer: whether the drawing was taken, and its cost. It is put into the line field by field: offers come by the
+// thousand, and a text between would be copied once more for each.
 fn write_offer<P: PrintingMeasure>(line: &mut [u8], taken: bool, cost: P::Amount) -> usize
     requires { 256 ≤ length line.old }
     ensures { Writes line.old line.new result (field (offer_word taken) 32 ++ field (P.PrintingMeasure.written cost) 10) }
 {
-    write_text(line, offer_text::<P>(taken, cost).as_slice())
+    let at = put_field(line, 0, offer_word(taken).as_bytes(), b' ');
+    put_field(line, at, P::write(cost).as_slice(), b'\n')
 }
 
 fn write_report<P: PrintingMeasure>(line: &mut [u8], report: &Report<P::Amount>) -> usize
